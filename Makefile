@@ -1,0 +1,30 @@
+# demo: what it does, on your screen · test: the gate · lib: libsign.a for C · install: library and header
+PREFIX ?= /usr/local
+LISTED := $(shell sed 's/\#.*//; s/:.*//' crates.txt)
+DEMOS := $(filter show sign,$(LISTED))
+
+demo: $(if $(DEMOS),$(DEMOS:%=demo-%),demo-none)
+
+demo-show:
+	rt check show
+	. tests/tools.sh && $$RUN target/bin/show < examples/greeting.bin
+
+demo-sign:
+	tests/run.sh example
+
+demo-none:
+	@echo "no program yet: crates.txt lists neither show nor sign"
+
+test:
+	.ci/run
+
+lib:
+	rt staticlib sign
+
+install: lib
+	install -d $(DESTDIR)$(PREFIX)/lib/pkgconfig $(DESTDIR)$(PREFIX)/include
+	install -m 644 target/staticlib/libsign.a $(DESTDIR)$(PREFIX)/lib/
+	install -m 644 include/sign.h $(DESTDIR)$(PREFIX)/include/
+	sed 's,@PREFIX@,$(PREFIX),' sign.pc.in > $(DESTDIR)$(PREFIX)/lib/pkgconfig/sign.pc
+
+.PHONY: demo demo-show demo-sign demo-none test lib install

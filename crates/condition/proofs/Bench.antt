@@ -1,0 +1,91 @@
+-- The bench sheet (document 01), cases 1 to 10: one table under one statement, computed from the definitions.
+use Prim.Native.Nat.{ℕ, zero, suc}
+use mathlib.Core.Path.{_≡_, refl}
+use mathlib.Core.List.{List, [], _∷_, _++_}
+use mathlib.Core.Bool.{true, cond}
+use lib.ListN.{getD, drop, replicate}
+use lib.Dec.{eqb}
+use Rattle.row.specs.Row.{lineStart, scrolled, shifted}
+use Rattle.users.specs.Users.{limitOf, foundIn, isUser, characterAt, putOf, definedAt, defineOf}
+use Rattle.users.specs.Dots.{dotOf, litUpTo, litOf}
+use Rattle.condition.specs.declared.Condition.{Condition}
+use Rattle.condition.specs.declared.Shows.the-variants.{Blank, Euro}
+use Rattle.condition.specs.Condition.{allUpTo, absent, usersGood, pendingGood, numbersGood, scrollGood, escapeGood, wellFormed, powerUp}
+use Rattle.condition.specs.Bytes.{scrollOf, leftOf, rightOf, pushOf, writeOf, isChar, controlOf, escapeOf, positionOf, dataOf, stepAt, runOf}
+use Rattle.condition.specs.Busy.{rightScrolls, lineShifts, writeBusy, controlBusy, escapeBusy, figureAt, busyOf}
+use Rattle.condition.specs.Shows.{showsCode, showsOf}
+use Rattle.condition.specs.Answers.{lookupOf, dotAnswer, litAnswer}
+
+-- a case: bytes that are run from power-up font 0, and what then holds of the condition and of the busy time
+pub record Case : Type 1 where
+  pub bytes : List ℕ
+  pub holds : Condition → ℕ → Type 0
+
+-- every case of a sheet holds
+abbrev pub AllHold : List Case → Type 0
+AllHold [] = Unit {0}
+AllHold (k ∷ ks) = k .holds (runOf (powerUp 0) (k .bytes)) (busyOf (powerUp 0) (k .bytes)) × AllHold ks
+
+abbrev pub cell : Condition → ℕ → ℕ
+cell c i = getD (c .codes) i 0
+
+-- which of the dots 1 to n of a code's user character are lit
+unfoldable pub dotsUpTo : Condition → ℕ → ℕ → List ℕ
+dotsUpTo c code zero = []
+dotsUpTo c code (suc n) = dotsUpTo c code n ++ cond (eqb (dotAnswer c code (suc n) .value) 1) (suc n ∷ []) []
+
+abbrev pub sheet : List Case
+sheet =
+    -- 1. no bytes: nothing changes
+    record { bytes = []; holds = λ c busy. (c ≡ powerUp 0) × (busy ≡ 0) }
+    -- 2. 41: cell 0 is 41h, cursor 1, busy 7
+    ∷ record { bytes = 0x41 ∷ []; holds = λ c busy. (cell c 0 ≡ 0x41) × (c .cursor ≡ 1) × (busy ≡ 7) }
+    -- 3. 1B 48 27 42: cell 39 is 42h, cursor 0, busy 21
+    ∷ record { bytes = 0x1B ∷ 0x48 ∷ 0x27 ∷ 0x42 ∷ []; holds = λ c busy. (cell c 39 ≡ 0x42) × (c .cursor ≡ 0) × (busy ≡ 21) }
+    -- 4. 12 1B 48 27 42: cell 19 is 42h, bottom blank, cursor 20, busy 40
+    ∷ record {
+      bytes = 0x12 ∷ 0x1B ∷ 0x48 ∷ 0x27 ∷ 0x42 ∷ [];
+      holds = λ c busy. (cell c 19 ≡ 0x42) × (drop 20 (c .codes) ≡ replicate 20 0x20) × (c .cursor ≡ 20) × (busy ≡ 40);
+    }
+    -- 5. 13 1B 48 13 41 42: cells 18, 19 are 41h, 42h, cursor 19, busy 47
+    ∷ record {
+      bytes = 0x13 ∷ 0x1B ∷ 0x48 ∷ 0x13 ∷ 0x41 ∷ 0x42 ∷ [];
+      holds = λ c busy. (cell c 18 ≡ 0x41) × (cell c 19 ≡ 0x42) × (c .cursor ≡ 19) × (busy ≡ 47);
+    }
+    -- 6. 1B 48 28: cursor 0, busy 14
+    ∷ record { bytes = 0x1B ∷ 0x48 ∷ 0x28 ∷ []; holds = λ c busy. (c .cursor ≡ 0) × (busy ≡ 14) }
+    -- 7. 1B 43 21 84 10 02 00 01: P3 P8 P13 P18 P33, five lit, busy 55
+    ∷ record {
+      bytes = 0x1B ∷ 0x43 ∷ 0x21 ∷ 0x84 ∷ 0x10 ∷ 0x02 ∷ 0x00 ∷ 0x01 ∷ [];
+      holds = λ c busy. (dotsUpTo c 0x21 35 ≡ 3 ∷ 8 ∷ 13 ∷ 18 ∷ 33 ∷ []) × (litAnswer c 0x21 ≡ record { refusal = 0; value = 5 }) × (busy ≡ 55);
+    }
+    -- 8. 1B 48 14 08: cursor 20
+    ∷ record { bytes = 0x1B ∷ 0x48 ∷ 0x14 ∷ 0x08 ∷ []; holds = λ c busy. c .cursor ≡ 20 }
+    -- 9. 1A AD shows Euro; then 18, blank
+    ∷ record { bytes = 0x1A ∷ 0xAD ∷ []; holds = λ c busy. (showsOf c 0 ≡ Euro) × (showsOf (runOf c (0x18 ∷ [])) 0 ≡ Blank) }
+    -- 10. 1B 43 09 00 00 00 00 00 09: cell 0 is 09h, cursor 1; a user character sits on 09h
+    ∷ record {
+      bytes = 0x1B ∷ 0x43 ∷ 0x09 ∷ 0x00 ∷ 0x00 ∷ 0x00 ∷ 0x00 ∷ 0x00 ∷ 0x09 ∷ [];
+      holds = λ c busy. (cell c 0 ≡ 0x09) × (c .cursor ≡ 1) × (isUser (c .users) 0x09 ≡ true);
+    }
+    ∷ []
+
+infixr 20 _⨾_
+-- a case, and the cases after it
+_⨾_ : {A B : Type 0} → A → B → A × B
+a ⨾ b = (a, b)
+
+pub bench : AllHold sheet
+unfolding powerUp runOf stepAt isChar isUser foundIn limitOf writeOf pushOf rightOf scrollOf scrolled shifted lineStart controlOf leftOf escapeOf positionOf dataOf defineOf definedAt putOf busyOf figureAt writeBusy controlBusy escapeBusy rightScrolls lineShifts showsOf showsCode dotsUpTo dotAnswer litAnswer lookupOf wellFormed numbersGood scrollGood allUpTo usersGood absent pendingGood escapeGood characterAt dotOf litOf litUpTo
+bench =
+    (refl, refl)
+    ⨾ (refl, refl, refl)
+    ⨾ (refl, refl, refl)
+    ⨾ (refl, refl, refl, refl)
+    ⨾ (refl, refl, refl, refl)
+    ⨾ (refl, refl)
+    ⨾ (refl, refl, refl)
+    ⨾ refl
+    ⨾ (refl, refl)
+    ⨾ (refl, refl, refl)
+    ⨾ tt

@@ -1,0 +1,181 @@
+-- Well-formedness by its parts.
+use mathlib.Core.Path.{_≡_, _∙_}
+use mathlib.Core.Bool.{true, _&&_}
+use mathlib.Core.List.{List, _∷_, _++_}
+use Prim.Native.Nat.{ℕ, _<_, _≤_, _+_}
+use native.Mathlib.Omega.{arith}
+use lib.Dec.{leb, ltb, eqb}
+use lib.ListN.{set, take, drop, length, length-append, length-take, length-drop, length-set, length-replicate}
+use borrow.Author.Tests.{leb-true, ltb-true, le-leb, lt-ltb}
+use Rattle.row.specs.Row.{lineStart, scrolled, shifted}
+use Rattle.users.specs.Users.{defineOf}
+use Rattle.users.proofs.Places.{by-test, define-96}
+use Rattle.condition.specs.declared.Condition.{Condition}
+use Rattle.condition.specs.Condition.{column, allUpTo, usersGood, pendingGood, numbersGood, scrollGood, escapeGood, wellFormed, powerUp}
+use Rattle.condition.specs.Set.{withCell}
+use Rattle.condition.specs.Bytes.{scrollOf, leftOf, rightOf, downOf, returnOf, clearOf, pushOf, writeOf, positionOf, dataOf, stepOf, runOf}
+use Rattle.condition.proofs.Places.{both}
+use Rattle.condition.proofs.Each.{Commands, step-by, run-by}
+
+-- the parts of well-formedness
+pub record Good (c : Condition) : Type 0 where
+  pub cursor-40 : c .cursor < 40
+  pub mode-1 : 1 ≤ c .mode
+  pub mode-3 : c .mode ≤ 3
+  pub font-1 : c .font ≤ 1
+  pub link-1 : c .link ≤ 1
+  pub luminance-3 : c .luminance ≤ 3
+  pub count-16 : c .users .count ≤ 16
+  pub scroll : scrollGood c ≡ true
+  pub fonts-1 : allUpTo 1 (c .fonts) ≡ true
+  pub users-good : usersGood (c .users .count) (c .users .bytes) ≡ true
+  pub pending-good : pendingGood (c .pending) (c .held) ≡ true
+  pub escape : escapeGood c ≡ true
+
+pub good : (c : Condition) → wellFormed c ≡ true → Good c
+unfolding wellFormed numbersGood
+good c e =
+    let p₅ = both (numbersGood c && scrollGood c && allUpTo 1 (c .fonts) && usersGood (c .users .count) (c .users .bytes) && pendingGood (c .pending) (c .held)) (escapeGood c) e in
+    let p₄ = both (numbersGood c && scrollGood c && allUpTo 1 (c .fonts) && usersGood (c .users .count) (c .users .bytes)) (pendingGood (c .pending) (c .held)) (p₅ .0) in
+    let p₃ = both (numbersGood c && scrollGood c && allUpTo 1 (c .fonts)) (usersGood (c .users .count) (c .users .bytes)) (p₄ .0) in
+    let p₂ = both (numbersGood c && scrollGood c) (allUpTo 1 (c .fonts)) (p₃ .0) in
+    let p₁ = both (numbersGood c) (scrollGood c) (p₂ .0) in
+    let q₆ = both _ (leb (c .users .count) 16) (p₁ .0) in
+    let q₅ = both _ (leb (c .luminance) 3) (q₆ .0) in
+    let q₄ = both _ (leb (c .link) 1) (q₅ .0) in
+    let q₃ = both _ (leb (c .font) 1) (q₄ .0) in
+    let q₂ = both _ (leb (c .mode) 3) (q₃ .0) in
+    let q₁ = both _ (leb 1 (c .mode)) (q₂ .0) in
+    record {
+      cursor-40 = ltb-true _ _ (q₁ .0);
+      mode-1 = leb-true _ _ (q₁ .1);
+      mode-3 = leb-true _ _ (q₂ .1);
+      font-1 = leb-true _ _ (q₃ .1);
+      link-1 = leb-true _ _ (q₄ .1);
+      luminance-3 = leb-true _ _ (q₅ .1);
+      count-16 = leb-true _ _ (q₆ .1);
+      scroll = p₁ .1;
+      fonts-1 = p₂ .1;
+      users-good = p₃ .1;
+      pending-good = p₄ .1;
+      escape = p₅ .1;
+    }
+
+pub formed : (c : Condition) → Good c → wellFormed c ≡ true
+unfolding wellFormed numbersGood
+formed c g =
+    rw (
+      lt-ltb _ _ (g .cursor-40),
+      le-leb _ _ (g .mode-1),
+      le-leb _ _ (g .mode-3),
+      le-leb _ _ (g .font-1),
+      le-leb _ _ (g .link-1),
+      le-leb _ _ (g .luminance-3),
+      le-leb _ _ (g .count-16),
+      g .scroll,
+      g .fonts-1,
+      g .users-good,
+      g .pending-good,
+      g .escape,
+    )
+
+-- Sizes: every condition of the code has them, and a byte keeps them --------------------------------------------------------
+
+pub record Sized (c : Condition) : Type 0 where
+  pub codes-40 : length (c .codes) ≡ 40
+  pub fonts-40 : length (c .fonts) ≡ 40
+  pub users-96 : length (c .users .bytes) ≡ 96
+  pub held-4 : length (c .held) ≡ 4
+
+pub scrolled-40 : (v : ℕ) (a : List ℕ) → length a ≡ 40 → length (scrolled v a) ≡ 40
+unfolding scrolled
+scrolled-40 v a h = simp (length-append, length-drop, length-replicate) (omega arith)
+
+pub shifted-40 : (at v : ℕ) (a : List ℕ) → length a ≡ 40 → length (shifted (lineStart at) v a) ≡ 40
+unfolding shifted lineStart
+shifted-40 at v a h =
+    by-test (λ (start : ℕ). length (take start a ++ take 19 (drop (start + 1) a) ++ v ∷ drop (start + 20) a) ≡ 40) (ltb at 20)
+    (λ _. simp (length-append, length-take, length-drop) (omega arith))
+    (λ _. simp (length-append, length-take, length-drop) (omega arith))
+
+scroll-sized : (c : Condition) → Sized c → Sized (scrollOf c)
+unfolding scrollOf
+scroll-sized c s = record { codes-40 = scrolled-40 0x20 (c .codes) (s .codes-40); fonts-40 = scrolled-40 (c .font) (c .fonts) (s .fonts-40); users-96 = s .users-96; held-4 = s .held-4 }
+
+right-sized : (c : Condition) → Sized c → Sized (rightOf c)
+unfolding rightOf
+right-sized c s =
+    by-test Sized (ltb (column c) 19) (λ _. search)
+    (λ _. by-test Sized (eqb (c .mode) 3) (λ _. s)
+    (λ _. by-test Sized (eqb (c .cursor) 19) (λ _. search)
+    (λ _. by-test Sized (eqb (c .mode) 1) (λ _. search)
+    (λ _. let t = scroll-sized c s in search))))
+
+put-sized : (c : Condition) (b : ℕ) → Sized c → Sized (withCell c (c .cursor) b)
+put-sized c b s =
+    record {
+      codes-40 = length-set (c .codes) (c .cursor) b ∙ s .codes-40;
+      fonts-40 = length-set (c .fonts) (c .cursor) (c .font) ∙ s .fonts-40;
+      users-96 = s .users-96;
+      held-4 = s .held-4;
+    }
+
+push-sized : (c : Condition) (b : ℕ) → Sized c → Sized (pushOf c b)
+unfolding pushOf
+push-sized c b s =
+    by-test Sized (c .scrolling)
+    (λ _. record {
+      codes-40 = shifted-40 (c .cursor) b (c .codes) (s .codes-40);
+      fonts-40 = shifted-40 (c .cursor) (c .font) (c .fonts) (s .fonts-40);
+      users-96 = s .users-96;
+      held-4 = s .held-4;
+    })
+    (λ _. let t = put-sized c b s in search)
+
+write-sized : (c : Condition) (b : ℕ) → Sized c → Sized (writeOf c b)
+unfolding writeOf
+write-sized c b s =
+    by-test Sized (eqb (c .mode) 3 && eqb (column c) 19) (λ _. push-sized c b s) (λ _. right-sized (withCell c (c .cursor) b) (put-sized c b s))
+
+commands-sized : (c : Condition) (b : ℕ) → Sized c → Commands Sized c b
+unfolding leftOf downOf returnOf clearOf positionOf dataOf powerUp
+commands-sized c b s =
+    record {
+      write = write-sized c b s;
+      left = by-test Sized (eqb (column c) 0) (λ _. search) (λ _. search);
+      right = right-sized c s;
+      down =
+          by-test Sized (ltb (c .cursor) 20) (λ _. search)
+          (λ _. by-test Sized (eqb (c .mode) 1) (λ _. search)
+          (λ _. by-test Sized (eqb (c .mode) 2) (λ _. let t = scroll-sized c s in search) (λ _. search)));
+      home = search;
+      return = search;
+      clear = search;
+      mode = λ m l h. search;
+      shown = λ x. search;
+      international = search;
+      katakana = search;
+      euro = search;
+      begin = λ e n. search;
+      ignored = s;
+      await = λ e p z. search;
+      initialise = search;
+      steady = λ e. search;
+      position = λ e. by-test Sized (leb b 0x27) (λ _. search) (λ _. search);
+      luminance = λ e. search;
+      speed = λ e. search;
+      code = λ e. search;
+      user-data =
+          λ code n e. by-test Sized (ltb n 4) (λ _. let l : length (set (c .held) n b) ≡ 4 = length-set (c .held) n b ∙ s .held-4 in search)
+          (λ _. let l : length (defineOf (c .users) code (c .held) b .bytes) ≡ 96 = define-96 (c .users) code (c .held) b (s .users-96) in search);
+    }
+
+pub step-sized : (c : Condition) (b : ℕ) → Sized c → Sized (stepOf c b)
+step-sized c b s = step-by Sized c b (commands-sized c b s)
+
+pub run-sized : (c : Condition) (bs : List ℕ) → Sized c → Sized (runOf c bs)
+run-sized c bs s = run-by Sized (λ _. Unit {0}) (λ c b _ t. step-sized c b t) c bs (λ _. tt) s
+
+pub power-up-sized : (f : ℕ) → Sized (powerUp f)
+unfolding powerUp
+power-up-sized f = search

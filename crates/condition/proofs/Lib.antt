@@ -1,0 +1,8 @@
+pub mod Places
+pub mod Each
+pub mod Ranges
+pub mod Users
+pub mod Good
+pub mod Kept
+pub mod Pieces
+pub mod Bench

@@ -1,0 +1,55 @@
+-- Every element is at most n: by places, and what keeps it.
+use mathlib.Core.Path.{_≡_, refl}
+use mathlib.Core.Bool.{true}
+use mathlib.Core.List.{List, [], _∷_, _++_}
+use Prim.Native.Nat.{ℕ, zero, suc, _≤_}
+use native.Mathlib.Omega.{arith}
+use lib.Dec.{leb}
+use lib.ListN.{getD, set, take, drop, replicate}
+use borrow.Author.Tests.{leb-true, le-leb}
+use Rattle.condition.specs.Condition.{allUpTo}
+use Rattle.condition.proofs.Places.{both}
+
+-- every element is at most n
+pub up-to-at : (n : ℕ) (l : List ℕ) → allUpTo n l ≡ true → (i : ℕ) → getD l i 0 ≤ n
+unfolding allUpTo
+up-to-at n [] e i = omega arith
+up-to-at n (x ∷ l) e zero = leb-true x n (both (leb x n) (allUpTo n l) e .0)
+up-to-at n (x ∷ l) e (suc i) = up-to-at n l (both (leb x n) (allUpTo n l) e .1) i
+
+pub at-up-to : (n : ℕ) (l : List ℕ) → ((i : ℕ) → getD l i 0 ≤ n) → allUpTo n l ≡ true
+unfolding allUpTo
+at-up-to n [] h = refl
+at-up-to n (x ∷ l) h = rw (le-leb x n (h 0)) (at-up-to n l (λ i. h (suc i)))
+
+pub up-to-set : (n : ℕ) (l : List ℕ) (i x : ℕ) → allUpTo n l ≡ true → x ≤ n → allUpTo n (set l i x) ≡ true
+unfolding allUpTo
+up-to-set n [] i x h e = refl
+up-to-set n (y ∷ l) zero x h e = rw (le-leb x n e) (both (leb y n) (allUpTo n l) h .1)
+up-to-set n (y ∷ l) (suc i) x h e = rw (both (leb y n) (allUpTo n l) h .0) (up-to-set n l i x (both (leb y n) (allUpTo n l) h .1) e)
+
+pub up-to-append : (n : ℕ) (a b : List ℕ) → allUpTo n a ≡ true → allUpTo n b ≡ true → allUpTo n (a ++ b) ≡ true
+unfolding allUpTo
+up-to-append n [] b h e = e
+up-to-append n (y ∷ a) b h e = rw (both (leb y n) (allUpTo n a) h .0) (up-to-append n a b (both (leb y n) (allUpTo n a) h .1) e)
+
+pub up-to-cons : (n x : ℕ) (l : List ℕ) → x ≤ n → allUpTo n l ≡ true → allUpTo n (x ∷ l) ≡ true
+unfolding allUpTo
+up-to-cons n x l h e = rw (le-leb x n h) e
+
+pub up-to-take : (n k : ℕ) (l : List ℕ) → allUpTo n l ≡ true → allUpTo n (take k l) ≡ true
+unfolding allUpTo
+up-to-take n zero l h = refl
+up-to-take n (suc k) [] h = refl
+up-to-take n (suc k) (y ∷ l) h = rw (both (leb y n) (allUpTo n l) h .0) (up-to-take n k l (both (leb y n) (allUpTo n l) h .1))
+
+pub up-to-drop : (n k : ℕ) (l : List ℕ) → allUpTo n l ≡ true → allUpTo n (drop k l) ≡ true
+unfolding allUpTo
+up-to-drop n zero l h = h
+up-to-drop n (suc k) [] h = refl
+up-to-drop n (suc k) (y ∷ l) h = up-to-drop n k l (both (leb y n) (allUpTo n l) h .1)
+
+pub up-to-replicate : (n k x : ℕ) → x ≤ n → allUpTo n (replicate k x) ≡ true
+unfolding allUpTo
+up-to-replicate n zero x h = refl
+up-to-replicate n (suc k) x h = rw (le-leb x n h) (up-to-replicate n k x h)

@@ -1,0 +1,55 @@
+use mathlib.Core.Path.{_≡_, refl, sym, ap, _∙_}
+use mathlib.Core.Bool.{Bool, true, false}
+use Prim.Native.Nat.{_<_, _≤_}
+use native.Mathlib.Omega.{arith}
+use lib.ListN.{length}
+use borrow.Author.Tests.{le-leb, lt-leb}
+use Rattle.condition.proofs.Places.{held-good}
+use Rattle.condition.specs.Condition.{pendingGood, heldOf, allUpTo}
+use borrow.Author.Needs.{needs}
+use Rattle.condition.proofs.pending_good.Statement.{statement}
+use Rattle.condition.proofs.pending_good.Tie as tie
+use Rattle.condition.proofs.pending_good.Reads as reads
+use Rattle.condition.proofs.pending_good.Lts as lts
+use Rattle.condition.proofs.held_of.Reads as held-of-reads
+use Rattle.condition.proofs.up_to.Reads as up-to-reads
+
+held-of-requires : tie.Need-held-of-requires
+held-of-requires c κs = search needs
+
+cast-n : tie.Need-cast-n
+cast-n c = search needs
+
+returns : tie.Need-returns
+unfolding pendingGood
+returns c =
+    let e : 4 < heldOf (c .before .before .args .p) = rw (c .before .held-of .ensures) at (c .if1 .taken) in
+    rw (lt-leb _ _ e)
+
+part-up-to-start : tie.Need-part-up-to-start
+part-up-to-start c = search needs
+
+part-up-to-end : tie.Need-part-up-to-end
+part-up-to-end c = search needs
+
+up-to-requires : tie.Need-up-to-requires
+up-to-requires c κs = search needs
+
+returns-2 : tie.Need-returns-2
+unfolding pendingGood
+returns-2 c =
+    let a = c .before .before .before .before .before .args in
+    let four : length (a .t2) ≡ 4 = search needs in
+    c .up-to .ensures ∙ held-good _ (heldOf (a .p)) (a .t2) four (c .before .before .before .before .held-of .ensures) (c .before .before .before .if1 .left)
+
+pub pending-good-spec : {M : Type 1} → statement M
+pending-good-spec =
+    tie.close
+    (tie.spec
+    held-of-requires
+    cast-n
+    returns
+    part-up-to-start
+    part-up-to-end
+    up-to-requires
+    returns-2)

@@ -1,0 +1,101 @@
+-- The condition (document 01, The condition): positions, power-up, and what is well formed.
+use Prim.Native.Nat.{ℕ, zero, suc, _+_, _-_, _*_, _/_, _%_}
+use mathlib.Core.List.{List, [], _∷_}
+use mathlib.Core.Bool.{Bool, true, false, cond, not, _&&_, _||_}
+use lib.ListN.{length, getD, set, take, drop, replicate}
+use lib.Dec.{eqb, ltb, leb}
+use Rattle.users.specs.declared.Users.{Users}
+use Rattle.condition.specs.declared.Condition.{Condition}
+use Rattle.condition.specs.declared.Pending.{Pending}
+use Rattle.condition.specs.declared.Pending.the-variants.{Nothing, Escape, Position, Luminance, Speed, UserCode, UserData}
+
+-- positions 0 to 39: 0 to 19 top line, 20 to 39 bottom; column is position mod 20
+abbrev pub column : Condition → ℕ
+column c = c .cursor % 20
+
+-- the half-received command is none
+abbrev pub idle : Pending → Bool
+idle Nothing = true
+idle Escape = false
+idle Position = false
+idle Luminance = false
+idle Speed = false
+idle UserCode = false
+idle (UserData code n) = false
+
+-- how many bytes are held of a user character's data
+abbrev pub heldOf : Pending → ℕ
+heldOf Nothing = 0
+heldOf Escape = 0
+heldOf Position = 0
+heldOf Luminance = 0
+heldOf Speed = 0
+heldOf UserCode = 0
+heldOf (UserData code n) = n
+
+-- Well formed: every value in range and every unused place 0 -----------------------------------------------------------
+
+-- every element is at most n
+unfoldable pub allUpTo : ℕ → List ℕ → Bool
+allUpTo n [] = true
+allUpTo n (x ∷ xs) = leb x n && allUpTo n xs
+
+-- the code x stands in none of the first n places of six bytes
+unfoldable pub absent : ℕ → ℕ → List ℕ → Bool
+absent x zero l = true
+absent x (suc n) l = not (eqb (getD l 0 0) x) && absent x n (drop 6 l)
+
+-- user codes distinct, each fifth byte below 16, over the first n places; the other places are 0
+unfoldable pub usersGood : ℕ → List ℕ → Bool
+usersGood zero l = allUpTo 0 l
+usersGood (suc n) l = ltb (getD l 5 0) 16 && (absent (getD l 0 0) n (drop 6 l) && usersGood n (drop 6 l))
+
+-- 0 to 4 bytes held, and the held bytes from the count up are 0
+unfoldable pub pendingGood : Pending → List ℕ → Bool
+pendingGood p h = leb (heldOf p) 4 && allUpTo 0 (drop (heldOf p) h)
+
+-- cursor 0 to 39, mode 1 to 3, selected font and default font 0 or 1, luminance 0 to 3, up to 16 user characters
+unfoldable pub numbersGood : Condition → Bool
+numbersGood c =
+    ltb (c .cursor) 40 && leb 1 (c .mode) && leb (c .mode) 3 && leb (c .font) 1 && leb (c .link) 1 && leb (c .luminance) 3
+    && leb (c .users .count) 16
+
+-- scroll-on only in mode 3 at column 19
+unfoldable pub scrollGood : Condition → Bool
+scrollGood c = not (c .scrolling) || eqb (c .mode) 3 && eqb (column c) 19
+
+-- if 1Bh is a user code, no command is half received
+unfoldable pub escapeGood : Condition → Bool
+escapeGood c = idle (c .pending) || absent 0x1B (c .users .count) (c .users .bytes)
+
+unfoldable pub wellFormed : Condition → Bool
+wellFormed c =
+    numbersGood c && scrollGood c && allUpTo 1 (c .fonts) && usersGood (c .users .count) (c .users .bytes)
+    && pendingGood (c .pending) (c .held) && escapeGood c
+
+-- Power-up ---------------------------------------------------------------------------------------------------------------
+
+abbrev pub noUsers : Users
+noUsers = record { bytes = replicate 96 0; count = 0 }
+
+-- Power-up for a default font: all cells 20h in that font, selected and default font both that font, cursor 0, mode 1,
+-- scroll-on, shown, Euro and flickerless off, luminance 3, speed 14h, no user characters, nothing half received
+unfoldable pub powerUp : ℕ → Condition
+powerUp f =
+    record {
+      codes = replicate 40 0x20;
+      fonts = replicate 40 f;
+      cursor = 0;
+      mode = 1;
+      scrolling = false;
+      shown = false;
+      font = f;
+      link = f;
+      euro = false;
+      luminance = 3;
+      speed = 0x14;
+      flickerless = false;
+      users = noUsers;
+      pending = Nothing;
+      held = replicate 4 0;
+    }

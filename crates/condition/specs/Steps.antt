@@ -1,0 +1,42 @@
+-- The planner's steps (document 01, Planner's steps), on bytes, over what a byte does.
+use Prim.Native.Nat.{ℕ, zero, suc, _+_, _-_, _*_, _/_, _%_}
+use mathlib.Core.List.{List, [], _∷_}
+use mathlib.Core.Bool.{Bool, true, false, cond, not, _&&_, _||_}
+use lib.ListN.{length, getD, set, take, drop, replicate}
+use lib.Dec.{eqb, ltb, leb}
+use Rattle.condition.specs.declared.Condition.{Condition}
+use Rattle.condition.specs.declared.Pending.{Pending}
+use Rattle.condition.specs.declared.Pending.the-variants.{Nothing, Escape, Position, Luminance, Speed, UserCode, UserData}
+use Rattle.condition.specs.Condition.{idle}
+use Rattle.condition.specs.Bytes.{isChar, stepOf}
+
+-- one byte: 08h, 09h, 0Ah, 0Ch, 0Dh
+unfoldable pub isMove : ℕ → Bool
+isMove b = eqb b 0x08 || eqb b 0x09 || eqb b 0x0A || eqb b 0x0C || eqb b 0x0D
+
+-- the next byte of a string of steps: a one-byte move, a character write in a cell not below `low`, or 1Bh 48h p with p at most 27h
+unfoldable pub stepByte : Pending → Condition → ℕ → ℕ → Bool
+stepByte Nothing c low b = cond (isChar c b) (leb low (c .cursor)) (isMove b || eqb b 0x1B)
+stepByte Escape c low b = eqb b 0x48
+stepByte Position c low b = leb b 0x27
+stepByte Luminance c low b = false
+stepByte Speed c low b = false
+stepByte UserCode c low b = false
+stepByte (UserData code n) c low b = false
+
+-- the lowest cell that may be written after it: above the one that it wrote
+unfoldable pub lowAfter : Condition → ℕ → ℕ → ℕ
+lowAfter c low b = cond (idle (c .pending) && isChar c b) (c .cursor + 1) low
+
+-- a string of these steps only, whole, each written cell at a higher position than the one written before
+unfoldable pub inOrder : Condition → ℕ → List ℕ → Bool
+inOrder c low [] = idle (c .pending)
+inOrder c low (b ∷ bs) = stepByte (c .pending) c low b && inOrder (stepOf c b) (lowAfter c low b) bs
+
+-- a reading-order string, all in mode 1
+unfoldable pub readingOrder : Condition → List ℕ → Bool
+readingOrder c bs = eqb (c .mode) 1 && inOrder c 0 bs
+
+-- a cell is wrong when its code differs or its font is not the selected one
+unfoldable pub wrong : Condition → List ℕ → ℕ → Bool
+wrong c wanted i = not (eqb (getD (c .codes) i 0) (getD wanted i 0) && eqb (getD (c .fonts) i 0) (c .font))

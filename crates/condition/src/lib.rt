@@ -1,0 +1,393 @@
+// A module's condition: what it holds, when it is well formed, power-up, and what a cell shows.
+ghost use mathlib.Core.Path.{_≡_};
+ghost use mathlib.Core.Bool.{true};
+ghost use Prim.Native.Nat.{_+_, _*_, _≤_};
+ghost use lib.ListN.{length};
+ghost use Rattle.users.specs.Users.{characterAt};
+ghost use Rattle.condition.specs.Condition.{idle, heldOf, allUpTo, absent, usersGood, pendingGood, numbersGood, scrollGood, wellFormed, powerUp};
+ghost use Rattle.condition.specs.Shows.{showsCode, euroOr};
+ghost use Rattle.condition.specs.Answers.{powerUpAnswer, viewAnswer, lookupOf, dotAnswer, underlineAnswer, litAnswer};
+use users::Character;
+use users::Found;
+use users::Users;
+
+// The half-received command. A user character's data has its code and the count of bytes held.
+pub enum Pending {
+    Nothing,
+    Escape,
+    Position,
+    Luminance,
+    Speed,
+    UserCode,
+    UserData(u8, u8),
+}
+
+pub struct Condition {
+    // The 40 cells: a code each, and a font each.
+    pub codes: [u8; Condition::CELLS],
+    pub fonts: [u8; Condition::CELLS],
+    pub cursor: u8,
+    pub mode: u8,
+    // Scroll-on.
+    pub scrolling: bool,
+    // Whether the cursor is shown.
+    pub shown: bool,
+    // The selected font, and the default one (link J6).
+    pub font: u8,
+    pub link: u8,
+    pub euro: bool,
+    pub luminance: u8,
+    pub speed: u8,
+    pub flickerless: bool,
+    pub users: Users,
+    pub pending: Pending,
+    // The data bytes held of a user character that is being received.
+    pub held: [u8; Condition::HELD],
+}
+
+// What a reading or power-up gives: a refusal number, 0 when accepted, and a condition.
+pub struct Outcome {
+    pub refusal: u8,
+    pub condition: Condition,
+}
+
+// What a cell shows: nothing, the user character of a code, the Euro mark, or a built-in code in a font.
+pub enum Shows {
+    Blank,
+    User(u8),
+    Euro,
+    BuiltIn(u8, u8),
+}
+
+pub struct Seen {
+    pub refusal: u8,
+    pub shows: Shows,
+}
+
+// What a question about a user character gives.
+pub struct Answer {
+    pub refusal: u8,
+    pub value: u32,
+}
+
+// Every byte of s is at most n.
+fn up_to(n: u8, s: &[u8]) -> bool
+    ensures { λ r. ⌜ r ≡ allUpTo n (now (s .entry)) ⌝ }
+{
+    let mut i = 0;
+    while i < s.len() {
+        if n < s[i] {
+            return false;
+        }
+        i += 1;
+    }
+    true
+}
+
+// The code x stands in none of the first n places of s.
+fn is_absent(x: u8, n: usize, s: &[u8]) -> bool
+    requires { ⌜ 6 * n ≤ length (now s) ⌝ }
+    ensures { λ r. ⌜ r ≡ absent x n (now (s .entry)) ⌝ }
+{
+    let mut left = n;
+    let mut at = 0;
+    while 0 < left {
+        if s[at] == x {
+            return false;
+        }
+        at += 6;
+        left -= 1;
+    }
+    true
+}
+
+fn users_good(n: usize, s: &[u8]) -> bool
+    requires { ⌜ 6 * n ≤ length (now s) ⌝ }
+    ensures { λ r. ⌜ r ≡ usersGood n (now (s .entry)) ⌝ }
+{
+    let mut left = n;
+    let mut at = 0;
+    while 0 < left {
+        let x = s[at];
+        let d = s[at + 5];
+        left -= 1;
+        at += 6;
+        if 16 <= d {
+            return false;
+        }
+        if !is_absent(x, left, &s[at..]) {
+            return false;
+        }
+    }
+    up_to(0, &s[at..])
+}
+
+fn is_idle(p: Pending) -> bool
+    ensures { λ r. ⌜ r ≡ idle p ⌝ }
+{
+    match p {
+        Pending::Nothing => true,
+        Pending::Escape => false,
+        Pending::Position => false,
+        Pending::Luminance => false,
+        Pending::Speed => false,
+        Pending::UserCode => false,
+        Pending::UserData(_, _) => false,
+    }
+}
+
+fn held_of(p: Pending) -> u8
+    ensures { λ r. ⌜ r ≡ heldOf p ⌝ }
+{
+    match p {
+        Pending::Nothing => 0,
+        Pending::Escape => 0,
+        Pending::Position => 0,
+        Pending::Luminance => 0,
+        Pending::Speed => 0,
+        Pending::UserCode => 0,
+        Pending::UserData(_, n) => n,
+    }
+}
+
+fn pending_good(p: Pending, h: [u8; 4]) -> bool
+    ensures { λ r. ⌜ r ≡ pendingGood p h ⌝ }
+{
+    let n = held_of(p) as usize;
+    if 4 < n {
+        return false;
+    }
+    up_to(0, &h[n..])
+}
+
+fn numbers_good(c: Condition) -> bool
+    ensures { λ r. ⌜ r ≡ numbersGood c ⌝ }
+{
+    let u = c.users;
+    ((c.cursor as usize) < Condition::CELLS)
+        & (1 <= c.mode)
+        & (c.mode <= Condition::LAST_MODE)
+        & (c.font <= Condition::LAST_FONT)
+        & (c.link <= Condition::LAST_FONT)
+        & (c.luminance <= Condition::FULL_LUMINANCE)
+        & (u.count <= Condition::MOST_USERS)
+}
+
+fn scroll_good(c: Condition) -> bool
+    ensures { λ r. ⌜ r ≡ scrollGood c ⌝ }
+{
+    !c.scrolling | ((c.mode == 3) & (c.cursor % Condition::COLUMNS == 19))
+}
+
+impl Condition {
+    // The cells, the columns of a line, and the data bytes that may be held of a user character.
+    pub const CELLS: usize = 40;
+
+    pub const COLUMNS: u8 = 20;
+
+    pub const HELD: usize = 4;
+
+    // The highest of each number that has a range.
+    pub const LAST_MODE: u8 = 3;
+
+    pub const LAST_FONT: u8 = 1;
+
+    pub const FULL_LUMINANCE: u8 = 3;
+
+    pub const MOST_USERS: u8 = 16;
+
+    // Power-up for a font, whatever its number.
+    fn powered(font: u8) -> Condition
+        ensures { λ r. ⌜ r ≡ powerUp font ⌝ }
+    {
+        let users = Users {
+            bytes: [0u8; 96],
+            count: 0,
+        };
+        Condition {
+            codes: [0x20u8; Condition::CELLS],
+            fonts: [font; Condition::CELLS],
+            cursor: 0,
+            mode: 1,
+            scrolling: false,
+            shown: false,
+            font: font,
+            link: font,
+            euro: false,
+            luminance: Condition::FULL_LUMINANCE,
+            speed: 0x14,
+            flickerless: false,
+            users: users,
+            pending: Pending::Nothing,
+            held: [0u8; Condition::HELD],
+        }
+    }
+
+    // Power-up for a default font.
+    pub fn power_up(font: u32) -> Outcome
+        ensures { λ r. ⌜ r ≡ powerUpAnswer font ⌝ }
+    {
+        if font <= 1 {
+            return Outcome {
+                refusal: 0,
+                condition: Condition::powered(font as u8),
+            };
+        }
+        Outcome {
+            refusal: 3,
+            condition: Condition::powered(0),
+        }
+    }
+
+    // Whether the condition is well formed.
+    pub fn well_formed(self) -> bool
+        ensures { λ r. ⌜ r ≡ wellFormed self ⌝ }
+    {
+        if !numbers_good(self) {
+            return false;
+        }
+        let u = self.users;
+        let n = u.count as usize;
+        let bytes = u.bytes;
+        let fonts = self.fonts;
+        let p = self.pending;
+        let h = self.held;
+        scroll_good(self)
+            & up_to(1, &fonts)
+            & users_good(n, &bytes)
+            & pending_good(p, h)
+            & (is_idle(p) | is_absent(0x1B, n, &bytes))
+    }
+}
+
+fn euro_or(on: bool) -> Shows
+    ensures { λ r. ⌜ r ≡ euroOr on ⌝ }
+{
+    if on { Shows::Euro } else { Shows::Blank }
+}
+
+// What a code in a font shows: the first that fits.
+fn shows_code(c: Condition, code: u8, font: u8) -> Shows
+    ensures { λ r. ⌜ r ≡ showsCode c code font ⌝ }
+{
+    let u = c.users;
+    let bytes = u.bytes;
+    if users::is_found(users::find(&bytes, u.count, code)) {
+        return Shows::User(code);
+    }
+    if code < 0x20 {
+        return Shows::Blank;
+    }
+    if (code == 0xAD) & (font == 0) {
+        return euro_or(c.euro);
+    }
+    Shows::BuiltIn(code, font)
+}
+
+// What the cell at a position shows.
+pub fn view(c: Condition, position: u32) -> Seen
+    ensures { λ r. ⌜ r ≡ viewAnswer c position ⌝ }
+{
+    if !c.well_formed() {
+        return Seen {
+            refusal: 3,
+            shows: Shows::Blank,
+        };
+    }
+    if 39 < position {
+        return Seen {
+            refusal: 3,
+            shows: Shows::Blank,
+        };
+    }
+    let i = position as usize;
+    let codes = c.codes;
+    let fonts = c.fonts;
+    Seen {
+        refusal: 0,
+        shows: shows_code(c, codes[i], fonts[i]),
+    }
+}
+
+// The user character of a code, where the condition is well formed and it is defined.
+fn lookup(c: Condition, code: u8) -> Found
+    ensures { λ r. ⌜ r ≡ lookupOf c code ⌝ }
+{
+    if !c.well_formed() {
+        return Found::Missing;
+    }
+    let u = c.users;
+    let bytes = u.bytes;
+    users::find(&bytes, u.count, code)
+}
+
+fn drawn(c: Condition, place: usize) -> Character
+    ensures { λ r. ⌜ r ≡ characterAt (c .users .bytes) place ⌝ }
+{
+    let u = c.users;
+    let bytes = u.bytes;
+    users::character_at(&bytes, place)
+}
+
+// Dot k of a user character, asked by its code: 1 where it is lit, else 0.
+pub fn dot(c: Condition, code: u8, k: u32) -> Answer
+    ensures { λ r. ⌜ r ≡ dotAnswer c code k ⌝ }
+{
+    if k < 1 {
+        return Answer {
+            refusal: 3,
+            value: 0,
+        };
+    }
+    if 35 < k {
+        return Answer {
+            refusal: 3,
+            value: 0,
+        };
+    }
+    let Found::At(place) = lookup(c, code) else {
+        return Answer {
+            refusal: 3,
+            value: 0,
+        };
+    };
+    let d = drawn(c, place);
+    Answer {
+        refusal: 0,
+        value: users::dot(d, k) as u32,
+    }
+}
+
+// The underline of a user character, asked by its code.
+pub fn underline(c: Condition, code: u8) -> Answer
+    ensures { λ r. ⌜ r ≡ underlineAnswer c code ⌝ }
+{
+    let Found::At(place) = lookup(c, code) else {
+        return Answer {
+            refusal: 3,
+            value: 0,
+        };
+    };
+    let d = drawn(c, place);
+    Answer {
+        refusal: 0,
+        value: users::underline(d) as u32,
+    }
+}
+
+// How many of its 35 dots a user character lights, asked by its code.
+pub fn lit(c: Condition, code: u8) -> Answer
+    ensures { λ r. ⌜ r ≡ litAnswer c code ⌝ }
+{
+    let Found::At(place) = lookup(c, code) else {
+        return Answer {
+            refusal: 3,
+            value: 0,
+        };
+    };
+    let d = drawn(c, place);
+    Answer {
+        refusal: 0,
+        value: users::lit(d),
+    }
+}

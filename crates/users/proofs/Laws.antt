@@ -1,0 +1,52 @@
+-- What the functions cite: a place that is found is below the count; a character is defined by how its lookup goes; dots.
+use Prim.Native.Nat.{ℕ, zero, suc, _+_, _-_, _*_, _/_, _^_, _%_, _<_, _≤_, min}
+use mathlib.Core.Path.{_≡_, refl, sym, ap, _∙_}
+use mathlib.Core.List.{List, [], _∷_}
+use mathlib.Core.Bool.{Bool, true, false, cond}
+use native.Mathlib.Omega.{arith}
+use lib.ListN.{length, getD, List·getD-eq-default}
+use lib.Dec.{eqb}
+use borrow.Author.Tests.{eq-eqb, le-leb, lt-leb}
+use mathlib.Core.Logic.{_⊎_, inl, inr}
+use Rattle.users.specs.Dots.{byteOf, dotOf}
+use Rattle.users.specs.declared.Character.{Character}
+use Rattle.users.specs.declared.Users.{Users}
+use Rattle.users.specs.declared.Found.{Found}
+use Rattle.users.specs.declared.Found.the-variants.{Missing, At}
+use Rattle.users.specs.Users.{placeOf, limitOf, foundIn, defineOf, definedAt, usersIn, defineIn}
+
+pub place-below : (us : List ℕ) (code n k j : ℕ) → placeOf us code n k ≡ At j → j < k + n
+place-below us code zero k j e = let z : _≡_ {A = ℕ} 0 1 = cc in omega arith
+place-below us code (suc n) k j e = go (eqb (getD us (k * 6) 0) code) e (λ h. place-below us code n (k + 1) j h)
+  where
+    go : (t : Bool) → cond t (At k) (placeOf us code n (k + 1)) ≡ At j → (placeOf us code n (k + 1) ≡ At j → j < k + 1 + n) → j < k + suc n
+    go true h l = let z : k ≡ j = cc in omega arith
+    go false h l = let m : j < k + 1 + n = l h in omega arith
+
+-- 96 bytes have 16 places
+pub found-below : (us : List ℕ) (count code j : ℕ) → length us ≡ 96 → foundIn us count code ≡ At j → j < 16
+unfolding foundIn limitOf
+found-below us count code j h e =
+    let l : j < 0 + min count (length us / 6) = place-below us code (min count (length us / 6)) 0 j e in
+    let m : length us / 6 ≡ 16 = ap (λ (n : ℕ). n / 6) h in
+    omega arith
+
+-- where the bytes are 96, and by how the lookup goes
+pub defines : (us : List ℕ) (count code : ℕ) (held : List ℕ) (last : ℕ) (f : Found) → length us ≡ 96 → f ≡ foundIn us count code
+    → definedAt f (usersIn us count) code held (last % 16) ≡ defineIn us count code held last
+unfolding defineIn defineOf
+defines us count code held last f h e = rw (eq-eqb (length us) 96 h, e)
+
+-- there is no sixth byte
+pub byte-past : (d : Character) (i : ℕ) → 5 ≤ i → 0 ≡ byteOf d i
+byte-past d i h = sym (List·getD-eq-default (d .d1 ∷ d .d2 ∷ d .d3 ∷ d .d4 ∷ d .d5 ∷ []) 0 h)
+
+-- the dots are 1 to 35
+pub no-dot : (d : Character) (k : ℕ) → (k < 1) ⊎ (35 < k) → 0 ≡ dotOf d k
+unfolding dotOf
+no-dot d k (inl h) = rw (lt-leb 1 k h)
+no-dot d k (inr h) = rw (le-leb 1 k (omega arith), lt-leb k 35 h)
+
+pub dot-law : (d : Character) (k : ℕ) → 1 ≤ k → k ≤ 35 → byteOf d ((k - 1) / 8) / 2 ^ ((k - 1) % 8) % 2 ≡ dotOf d k
+unfolding dotOf
+dot-law d k h l = rw (le-leb 1 k h, le-leb k 35 l)

@@ -1,0 +1,3 @@
+pub mod Laws
+pub mod Ones
+pub mod Places

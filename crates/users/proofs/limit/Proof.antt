@@ -1,0 +1,16 @@
+use native.Mathlib.Omega.{arith}
+use Rattle.users.specs.Users.{limitOf}
+use borrow.Author.Needs.{needs}
+use Rattle.users.proofs.limit.Statement.{statement}
+use Rattle.users.proofs.limit.Tie as tie
+
+returns : tie.Need-returns
+unfolding limitOf
+returns c = (omega arith, omega arith)
+
+returns-2 : tie.Need-returns-2
+unfolding limitOf
+returns-2 c = (omega arith, omega arith)
+
+pub limit-spec : {M : Type 1} → statement M
+limit-spec = tie.close (tie.spec returns returns-2)

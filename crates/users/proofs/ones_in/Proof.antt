@@ -1,0 +1,13 @@
+use mathlib.Core.Path.{refl}
+use lib.Count.{ones-le}
+use borrow.Author.Needs.{needs}
+use Rattle.users.proofs.ones_in.Statement.{statement}
+use Rattle.users.proofs.ones_in.Tie as tie
+use Rattle.users.proofs.ones_in.Reads as reads
+use Rattle.users.proofs.ones_in.Lts as lts
+
+returns : tie.Need-returns
+returns c = (refl, ones-le 8 (c .args .b) (search needs))
+
+pub ones-in-spec : {M : Type 1} → statement M
+ones-in-spec = tie.close (tie.spec returns)

@@ -1,0 +1,2 @@
+pub mod Users
+pub mod Dots

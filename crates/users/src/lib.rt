@@ -1,0 +1,167 @@
+// Up to 16 user characters in 96 bytes: a place is a code and five bytes, the oldest first.
+ghost use mathlib.Core.Path.{_≡_};
+ghost use Prim.Native.Nat.{_+_, _*_, _≤_};
+ghost use lib.Count.{ones};
+ghost use lib.ListN.{length};
+ghost use Rattle.users.specs.Users.{limitOf, foundIn, isFound, characterAt, putOf, usersIn, defineIn};
+ghost use Rattle.users.specs.Dots.{byteOf, dotOf, underlineOf, litOf};
+
+pub struct Users {
+    pub bytes: [u8; 96],
+    pub count: u8,
+}
+
+// The lookup of a code: its place, counted from the oldest, or none.
+pub enum Found {
+    Missing,
+    At(usize),
+}
+
+// A user character's five bytes.
+pub struct Character {
+    pub d1: u8,
+    pub d2: u8,
+    pub d3: u8,
+    pub d4: u8,
+    pub d5: u8,
+}
+
+// As many places as are in use, and no more than there are bytes for.
+fn limit(bytes: &[u8], count: u8) -> usize
+    ensures { λ r. ⌜ (r ≡ limitOf (now (bytes .entry)) count) × (6 * r ≤ length (now (bytes .entry))) ⌝ }
+{
+    let room = bytes.len() / 6;
+    let n = count as usize;
+    if n < room { n } else { room }
+}
+
+// The place of a code among the first `count`.
+pub fn find(bytes: &[u8], count: u8, code: u8) -> Found
+    ensures { λ r. ⌜ r ≡ foundIn (now (bytes .entry)) count code ⌝ }
+{
+    let n = limit(bytes, count);
+    let mut k: usize = 0;
+    while k < n {
+        if bytes[k * 6] == code {
+            return Found::At(k);
+        }
+        k += 1;
+    }
+    Found::Missing
+}
+
+pub fn is_found(f: Found) -> bool
+    ensures { λ r. ⌜ r ≡ isFound f ⌝ }
+{
+    match f {
+        Found::Missing => false,
+        Found::At(_) => true,
+    }
+}
+
+// The five bytes at a place; a place that is not there has five 0.
+pub fn character_at(bytes: &[u8], place: usize) -> Character
+    ensures { λ r. ⌜ r ≡ characterAt (now (bytes .entry)) place ⌝ }
+{
+    if bytes.len() / 6 <= place {
+        return Character {
+            d1: 0,
+            d2: 0,
+            d3: 0,
+            d4: 0,
+            d5: 0,
+        };
+    }
+    let at = place * 6;
+    Character {
+        d1: bytes[at + 1],
+        d2: bytes[at + 2],
+        d3: bytes[at + 3],
+        d4: bytes[at + 4],
+        d5: bytes[at + 5],
+    }
+}
+
+// A character's six bytes from `at` on.
+fn put(bytes: &mut [u8], at: usize, code: u8, held: [u8; 4], last: u8)
+    requires { ⌜ (at ≤ 90) × (length (now bytes) ≡ 96) ⌝ }
+    ensures { λ _. ⌜ now (bytes .exit) ≡ putOf (now (bytes .entry)) at code held last ⌝ }
+{
+    bytes[at] = code;
+    bytes[at + 1] = held[0];
+    bytes[at + 2] = held[1];
+    bytes[at + 3] = held[2];
+    bytes[at + 4] = held[3];
+    bytes[at + 5] = last;
+}
+
+// A code with its five bytes, of which the top four bits of the fifth are dropped. It keeps its place, or comes last;
+// with 16 held the oldest goes. Answers how many are held then. Bytes that are not 96 stay as they are.
+pub fn define(bytes: &mut [u8], count: u8, code: u8, held: [u8; 4], last: u8) -> u8
+    ensures { λ r. ⌜ usersIn (now (bytes .exit)) r ≡ defineIn (now (bytes .entry)) count code held last ⌝ }
+{
+    if bytes.len() != 96 {
+        return count;
+    }
+    let low = last % 16;
+    let f = find(bytes, count, code);
+    if let Found::At(k) = f {
+        put(bytes, k * 6, code, held, low);
+        return count;
+    }
+    if count < 16 {
+        let at = (count as usize) * 6;
+        put(bytes, at, code, held, low);
+        return count + 1;
+    }
+    row::advance(bytes, 6);
+    put(bytes, 90, code, held, low);
+    count
+}
+
+fn byte(d: Character, i: u32) -> u8
+    ensures { λ r. ⌜ r ≡ byteOf d i ⌝ }
+{
+    match i {
+        0 => d.d1,
+        1 => d.d2,
+        2 => d.d3,
+        3 => d.d4,
+        4 => d.d5,
+        _ => 0,
+    }
+}
+
+// Dot k of 1 to 35: 1 where it is lit, else 0. Any other k has no dot.
+pub fn dot(d: Character, k: u32) -> u8
+    ensures { λ r. ⌜ r ≡ dotOf d k ⌝ }
+{
+    if k < 1 {
+        return 0;
+    }
+    if 35 < k {
+        return 0;
+    }
+    let i = k - 1;
+    let b = byte(d, i / 8);
+    (b >> (i % 8)) % 2
+}
+
+pub fn underline(d: Character) -> u8
+    ensures { λ r. ⌜ r ≡ underlineOf d ⌝ }
+{
+    d.d5 / 8 % 2
+}
+
+fn ones_in(b: u8) -> u32
+    ensures { λ r. ⌜ (r ≡ ones b) × (r ≤ 8) ⌝ }
+{
+    u32::count_ones(b as u32)
+}
+
+// How many of the 35 dots are lit: the ones of four bytes and of the low three bits of the fifth.
+pub fn lit(d: Character) -> u32
+    ensures { λ r. ⌜ r ≡ litOf d ⌝ }
+{
+    ones_in(d.d1) + ones_in(d.d2) + ones_in(d.d3) + ones_in(d.d4) + ones_in(d.d5 % 8)
+}

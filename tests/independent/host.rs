@@ -1,0 +1,589 @@
+//! Calls the three C functions with all kinds of arguments, right and wrong, and compares each answer
+//! and each byte of each buffer with the independent program. Linked with libsign.a.
+
+mod inputs;
+mod module;
+mod report;
+mod rng;
+mod sign;
+
+use inputs::{any_condition, commands, place, reached_condition, some_bytes};
+use module::*;
+use report::{first_difference, hex, Report};
+use rng::Rng;
+use sign::Lent;
+use std::alloc::{alloc_zeroed, dealloc, Layout};
+
+struct Host {
+    report: Report,
+    rng: Rng,
+    moves: Moves,
+    /// Answers of run and plan by refusal (0: accepted), to show that each was met.
+    runs: [u64; 11],
+    plans: [u64; 11],
+    power_ups: [u64; 11],
+}
+
+impl Host {
+    fn new(seed: u64) -> Host {
+        Host {
+            report: Report::new(),
+            rng: Rng::new(seed),
+            moves: Moves::new(),
+            runs: [0; 11],
+            plans: [0; 11],
+            power_ups: [0; 11],
+        }
+    }
+
+    /// One run, compared in all it leaves; answers the block and tally after it, if it was accepted.
+    fn run(&mut self, block: &[u8], tally: &[u8], bytes: &[u8]) -> Option<(Vec<u8>, Vec<u8>)> {
+        let mut block_after = block.to_vec();
+        let mut tally_after = tally.to_vec();
+        let expected = host_run(&mut block_after, &mut tally_after, bytes);
+        if expected != 0 {
+            assert!(block_after == block && tally_after == tally);
+        }
+        let mut b = Lent::new(block, &mut self.rng);
+        let mut t = Lent::new(tally, &mut self.rng);
+        let s = Lent::new(bytes, &mut self.rng);
+        let got = sign::run(b.bytes_mut(), t.bytes_mut(), s.bytes());
+        self.report.cases += 1;
+        self.runs[expected as usize] += 1;
+        let call = || {
+            format!(
+                "sign_run, block of {} with head {}, tally {}, {} bytes {}",
+                block.len(),
+                hex(&block[..block.len().min(24)]),
+                hex(tally),
+                bytes.len(),
+                hex(bytes)
+            )
+        };
+        self.report.expect(got == expected, || format!("{}: answer {} and should be {}", call(), got, expected));
+        self.report.expect(b.bytes() == &block_after[..], || {
+            format!("{}: block, {}", call(), first_difference(&block_after, b.bytes()))
+        });
+        self.report.expect(t.bytes() == &tally_after[..], || {
+            format!("{}: tally {} and should be {}", call(), hex(t.bytes()), hex(&tally_after))
+        });
+        self.report.expect(b.guarded() && t.guarded() && s.untouched(), || format!("{}: wrote outside", call()));
+        if got != 0 {
+            self.report.expect(b.untouched() && t.untouched(), || format!("{}: refused, and changed something", call()));
+            return None;
+        }
+        // an accepted run's block and tally are accepted again, and no bytes change nothing
+        let mut again = b.bytes().to_vec();
+        let mut again_tally = t.bytes().to_vec();
+        let answer = sign::run(&mut again, &mut again_tally, &[]);
+        self.report.expect(answer == 0 && again == b.bytes() && again_tally == t.bytes(), || {
+            format!("{}: its block is answered {} afterwards", call(), answer)
+        });
+        Some((b.bytes().to_vec(), t.bytes().to_vec()))
+    }
+
+    fn plan(&mut self, block: &[u8], codes: &[u8], cursor: u32, room: usize) {
+        let fill = self.rng.byte();
+        let mut out_after = vec![fill; room];
+        let expected = host_plan(block, codes, cursor, &mut out_after, &self.moves);
+        let b = Lent::new(block, &mut self.rng);
+        let k = Lent::new(codes, &mut self.rng);
+        let mut o = Lent::new(&vec![fill; room], &mut self.rng);
+        let got = sign::plan(b.bytes(), k.bytes(), cursor, o.bytes_mut());
+        self.report.cases += 1;
+        self.plans[if expected < 256 { 0 } else { expected as usize - 256 }] += 1;
+        let call = || {
+            format!(
+                "sign_plan, block of {} with head {}, {} codes {}, cursor {}, room {}",
+                block.len(),
+                hex(&block[..block.len().min(24)]),
+                codes.len(),
+                hex(codes),
+                cursor,
+                room
+            )
+        };
+        self.report.expect(got == expected, || format!("{}: answer {} and should be {}", call(), got, expected));
+        self.report.expect(o.bytes() == &out_after[..], || {
+            format!("{}: plan {} and should be {}", call(), hex(o.bytes()), hex(&out_after))
+        });
+        self.report.expect(b.untouched() && k.untouched() && o.guarded(), || format!("{}: wrote outside", call()));
+        if got >= 256 {
+            self.report.expect(o.untouched(), || format!("{}: refused, and wrote to the buffer", call()));
+        }
+    }
+
+    fn power_up(&mut self, font: u32, room: usize) {
+        let fill = self.rng.bytes(room);
+        let mut after = fill.clone();
+        let expected = host_power_up(font, &mut after);
+        let mut b = Lent::new(&fill, &mut self.rng);
+        let got = sign::power_up(font, b.bytes_mut());
+        self.report.cases += 1;
+        self.power_ups[expected as usize] += 1;
+        let call = || format!("sign_power_up, font {}, room {}", font, room);
+        self.report.expect(got == expected, || format!("{}: answer {} and should be {}", call(), got, expected));
+        self.report.expect(b.bytes() == &after[..] && b.guarded(), || {
+            format!("{}: {}", call(), first_difference(&after, b.bytes()))
+        });
+    }
+}
+
+const ZERO: [u8; TALLY] = [0; TALLY];
+const LIMIT32: u32 = LIMIT as u32;
+
+fn tally(bytes: u32, busy: u32, flickerless: u32) -> Vec<u8> {
+    Tally { bytes: bytes as u64, busy: busy as u64, flickerless: flickerless as u64 }.to_bytes().to_vec()
+}
+
+/// A condition with nearly every field away from its power-up value.
+fn rich() -> Condition {
+    let mut c = Condition::power_up(1);
+    for i in 0..CELLS {
+        c.codes[i] = (i * 7) as u8;
+        c.fonts[i] = (i % 3 == 0) as u8;
+    }
+    c.cursor = 39;
+    c.mode = 3;
+    c.scroll_on = true;
+    c.shown = true;
+    c.font = 0;
+    c.euro = true;
+    c.luminance = 1;
+    c.speed = 200;
+    c.flickerless = true;
+    for i in 0..15 {
+        c.users[i] = User { code: i as u8 * 17, dots: [i as u8, 255, 128, 1, i as u8] };
+    }
+    c.count = 15;
+    c.half = Half::UserData { code: 0x1B, count: 3, held: [9, 8, 7, 0] };
+    c
+}
+
+/// A condition for which plans are made, with user characters.
+fn plannable() -> Condition {
+    let mut c = rich();
+    c.mode = 1;
+    c.scroll_on = false;
+    c.half = Half::Nothing;
+    c
+}
+
+/// Every byte of a block with every value, under a right check; some under a wrong one; every check.
+fn damaged_blocks(h: &mut Host) {
+    for c in [Condition::power_up(0), rich()] {
+        let good = c.to_block();
+        for i in 0..510 {
+            for v in 0..=255u8 {
+                let mut b = good;
+                b[i] = v;
+                seal(&mut b);
+                h.run(&b, &ZERO, &[0x41, 0x1B]);
+            }
+            for v in [0x00, 0x01, 0x10, 0x56, 0x80, 0xFF] {
+                let mut b = good;
+                b[i] ^= v;
+                h.run(&b, &ZERO, &[0x41]);
+            }
+        }
+        for check in 0..=65_535u32 {
+            let mut b = good;
+            b[510] = check as u8;
+            b[511] = (check >> 8) as u8;
+            h.run(&b, &ZERO, &[]);
+        }
+    }
+    let good = plannable().to_block();
+    let codes = plannable().codes.map(|x| if x < 0x20 { 0x41 } else { x });
+    for i in 0..510 {
+        for v in 0..=255u8 {
+            let mut b = good;
+            b[i] = v;
+            seal(&mut b);
+            h.plan(&b, &codes, (v % 40) as u32, 44);
+        }
+        let mut b = good;
+        b[i] ^= 0x40;
+        h.plan(&b, &codes, 0, 44);
+    }
+    // two damages that leave the sum as it was: the check is right, and only the other rules can tell
+    for i in 0..254 {
+        let mut b = good;
+        if b[i] <= 253 && b[2 * i + 1] >= 1 {
+            b[i] += 2;
+            b[2 * i + 1] -= 1;
+            h.plan(&b, &codes, 0, 44);
+            h.run(&b, &ZERO, &[]);
+        }
+    }
+}
+
+/// Every set of things that are wrong at once: the lowest number is given.
+fn order_of_refusals(h: &mut Host) {
+    let long = vec![0x41; LONGEST_RUN + 1];
+    for set in 0..1u32 << 9 {
+        let wrong = |i: u32| set >> i & 1 == 1;
+        let mut block = Condition::power_up(0).to_block().to_vec();
+        if wrong(0) {
+            block[4] = 9; // mode: not well formed
+            seal(&mut block);
+        }
+        if wrong(1) {
+            block[2] = 2; // not a block of this kind
+            seal(&mut block);
+        }
+        if wrong(2) {
+            block[510] ^= 1;
+        }
+        if wrong(3) {
+            block.push(0);
+        }
+        let mut t = tally(7, 7, 7);
+        if wrong(4) {
+            t = tally(LIMIT32, 7, 7); // one byte more would pass the limit
+        }
+        if wrong(5) {
+            t[11] = 0xFF; // above the limit
+        }
+        if wrong(6) {
+            t.push(0);
+        }
+        if wrong(7) {
+            t.truncate(11);
+        }
+        h.run(&block, &t, if wrong(8) { &long } else { &[0x41, 0x42] });
+    }
+    for set in 0..1u32 << 12 {
+        let wrong = |i: u32| set >> i & 1 == 1;
+        let mut c = Condition::power_up(0);
+        let mut codes = vec![0x41; CELLS];
+        if wrong(0) {
+            c.half = any_started(&mut h.rng);
+        }
+        if wrong(1) {
+            c.mode = 2 + (set >> 5 & 1) as u8;
+        }
+        if wrong(2) {
+            // 1Bh as a user code and a half-received command exclude each other
+            let code = PLANNERS_CODES[h.rng.below(if wrong(0) { 5 } else { 6 })];
+            c.users[0] = User { code, dots: [1; 5] };
+            c.count = 1;
+        }
+        if wrong(3) {
+            codes[h.rng.below(CELLS)] = 0x1F;
+        }
+        let mut block = c.to_block().to_vec();
+        if wrong(4) {
+            block[300] = 1;
+            seal(&mut block);
+        }
+        if wrong(5) {
+            block[0] = 0;
+            seal(&mut block);
+        }
+        if wrong(6) {
+            block[511] ^= 0x80;
+        }
+        if wrong(7) {
+            block.truncate(511);
+        }
+        if wrong(8) {
+            codes.push(0x41);
+        } else if wrong(9) {
+            codes.pop();
+        }
+        let cursor = if wrong(10) { 40 } else { 39 };
+        h.plan(&block, &codes, cursor, if wrong(11) { 43 } else { 44 });
+    }
+}
+
+fn any_started(rng: &mut Rng) -> Half {
+    loop {
+        let half = inputs::any_half(rng);
+        if half != Half::Nothing {
+            return half;
+        }
+    }
+}
+
+fn wrong_lengths(h: &mut Host) {
+    let block = rich().to_block();
+    for block_len in [0, 1, 2, 3, 256, 510, 511, 512, 513, 514, 1024] {
+        for tally_len in [0, 1, 4, 8, 11, 12, 13, 16, 24] {
+            for bytes_len in [0, 1, 100] {
+                let mut b = block.to_vec();
+                b.resize(block_len, 0);
+                h.run(&b, &vec![0; tally_len], &vec![0x41; bytes_len]);
+            }
+        }
+        for codes_len in [0, 1, 20, 39, 40, 41, 80, 512] {
+            for room in [0, 43, 44, 45, 512] {
+                let mut b = plannable().to_block().to_vec();
+                b.resize(block_len, 0);
+                h.plan(&b, &vec![0x41; codes_len], 5, room);
+            }
+        }
+    }
+    for n in [LONGEST_RUN - 1, LONGEST_RUN, LONGEST_RUN + 1, LONGEST_RUN + 2, 65_535, 65_536, 65_537, 100_000] {
+        for block in [Condition::power_up(0).to_block(), rich().to_block()] {
+            let bytes = inputs::mixed(n);
+            h.run(&block, &ZERO, &bytes);
+            h.run(&block, &tally(LIMIT32, 0, 0), &bytes);
+            h.run(&block, &tally(0, LIMIT32 - 1, 0), &bytes);
+            h.run(&block, &vec![0x42; n.min(12)], &bytes);
+        }
+    }
+    for font in [0, 1, 2, 3, 255, 256, 257, 65_536, 1 << 31, u32::MAX] {
+        for room in (0..600).chain([1024, 5_000]) {
+            h.power_up(font, room);
+        }
+    }
+}
+
+/// Tallies at and above the limit, and runs that just reach or just pass it.
+fn tallies(h: &mut Host) {
+    let edge = [0, 1, LIMIT32 - 40, LIMIT32 - 1, LIMIT32, LIMIT32 + 1, u32::MAX];
+    for a in edge {
+        for b in edge {
+            for c in edge {
+                let block = Condition::power_up(0).to_block();
+                for bytes in [&[][..], &[0x41], &[0x1B, 0x53], &[0x1B, 0x53, 0x41]] {
+                    h.run(&block, &tally(a, b, c), bytes);
+                }
+            }
+        }
+    }
+    for _ in 0..4_000 {
+        let c = any_condition(&mut h.rng);
+        let length = h.rng.below(60);
+        let bytes = some_bytes(&mut h.rng, length);
+        let (_, sum) = run(&c, &Tally::ZERO, &bytes).expect("an accepted run");
+        let base = h.rng.below(1_000) as u32;
+        let delta = h.rng.below(3) as u64;
+        let mut t = [base; 3];
+        let which = h.rng.below(3);
+        t[which] = (LIMIT - [sum.bytes, sum.busy, sum.flickerless][which] - 1 + delta) as u32;
+        h.run(&c.to_block(), &tally(t[0], t[1], t[2]), &bytes);
+    }
+}
+
+/// Any condition, any bytes, with now and then something wrong.
+fn random_runs(h: &mut Host, cases: usize) {
+    for i in 0..cases {
+        let c = if i % 2 == 0 { any_condition(&mut h.rng) } else { reached_condition(&mut h.rng) };
+        let mut block = c.to_block().to_vec();
+        let length = if i % 500 == 0 { 32_700 + h.rng.below(70) } else { h.rng.below(80) };
+        let bytes = some_bytes(&mut h.rng, length);
+        let mut t = tally(h.rng.below(1_000_000) as u32, h.rng.below(1_000_000) as u32, h.rng.below(1_000_000) as u32);
+        if h.rng.once_in(10) {
+            let edge = LIMIT32 - h.rng.below(500) as u32;
+            t = tally(edge, LIMIT32 - h.rng.below(2_000) as u32, edge);
+        }
+        if h.rng.once_in(8) {
+            damage(&mut block, &mut h.rng);
+        }
+        if h.rng.once_in(40) {
+            t = h.rng.bytes(12);
+        }
+        if h.rng.once_in(60) {
+            let n = h.rng.below(30);
+            t.resize(n, 0);
+        }
+        if h.rng.once_in(60) {
+            let n = h.rng.below(1_100);
+            block.resize(n, 0);
+        }
+        h.run(&block, &t, &bytes);
+    }
+}
+
+/// Changes up to three bytes, and mostly puts the check right again.
+fn damage(block: &mut [u8], rng: &mut Rng) {
+    for _ in 0..1 + rng.below(3) {
+        let i = match rng.below(4) {
+            0 => rng.below(24),
+            1 => 104 + rng.below(96),
+            2 => 24 + rng.below(80),
+            _ => rng.below(512),
+        };
+        block[i] = if rng.once_in(2) { rng.byte() } else { rng.below(8) as u8 };
+    }
+    if !rng.once_in(5) {
+        seal(block);
+    }
+}
+
+fn random_plans(h: &mut Host, cases: usize) {
+    for i in 0..cases {
+        let mut c = if i % 2 == 0 { any_condition(&mut h.rng) } else { reached_condition(&mut h.rng) };
+        if !h.rng.once_in(6) {
+            c.mode = 1;
+            c.scroll_on = false;
+        }
+        if !h.rng.once_in(6) {
+            c.half = Half::Nothing;
+        }
+        if !h.rng.once_in(6) {
+            for k in 0..c.count {
+                if PLANNERS_CODES.contains(&c.users[k].code) {
+                    // a free code in its place
+                    let free = (0x80..=0xFF).find(|&x| !c.is_user(x)).unwrap();
+                    c.users[k].code = free;
+                }
+            }
+        }
+        let mut block = c.to_block().to_vec();
+        let mut codes = c.codes.to_vec();
+        for _ in 0..h.rng.below(45) {
+            let p = h.rng.below(CELLS);
+            codes[p] = if h.rng.once_in(3) { h.rng.byte() } else { 0x41 + h.rng.below(3) as u8 };
+        }
+        if !h.rng.once_in(6) {
+            for x in codes.iter_mut() {
+                if *x < 0x20 && !c.is_user(*x) {
+                    *x |= 0x20;
+                }
+            }
+        }
+        if h.rng.once_in(10) {
+            damage(&mut block, &mut h.rng);
+        }
+        if h.rng.once_in(60) {
+            let n = h.rng.below(80);
+            codes.resize(n, 0x41);
+        }
+        if h.rng.once_in(60) {
+            let n = h.rng.below(1_100);
+            block.resize(n, 0);
+        }
+        let cursor = match h.rng.below(12) {
+            0 => h.rng.pick(&[40, 41, 59, 127, 255, 256, 256 + 5, 65_536, 65_536 + 39, 1 << 31, u32::MAX]),
+            1 => h.rng.next() as u32,
+            _ => place(&mut h.rng) as u32,
+        };
+        let room = if h.rng.once_in(8) { h.rng.below(44) } else { 44 + h.rng.below(30) };
+        h.plan(&block, &codes, cursor, room);
+    }
+}
+
+/// The same bytes in one run or in several end alike.
+fn pieces(h: &mut Host, cases: usize) {
+    for i in 0..cases {
+        let c = if i % 2 == 0 { any_condition(&mut h.rng) } else { Condition::power_up(0) };
+        let length = h.rng.below(200);
+        let bytes = some_bytes(&mut h.rng, length);
+        let block = c.to_block().to_vec();
+        let whole = h.run(&block, &ZERO, &bytes);
+        let mut now = Some((block, ZERO.to_vec()));
+        let mut at = 0;
+        while at < length {
+            let to = (at + 1 + h.rng.below(20)).min(length);
+            now = match now {
+                Some((b, t)) => h.run(&b, &t, &bytes[at..to]),
+                None => None,
+            };
+            at = to;
+        }
+        h.report.expect(whole == now, || format!("in pieces otherwise: {}", hex(&bytes)));
+    }
+}
+
+/// A long day: one block and tally carried through many runs.
+fn long_day(h: &mut Host) {
+    let mut now = (Condition::power_up(1).to_block().to_vec(), ZERO.to_vec());
+    for i in 0..40 {
+        let flavour = inputs::FLAVOURS[i % 5];
+        let bytes = commands(&mut h.rng, LONGEST_RUN, flavour, false);
+        match h.run(&now.0, &now.1, &bytes) {
+            Some(next) => now = next,
+            None => return h.report.expect(false, || "a long day: refused".to_string()),
+        }
+    }
+}
+
+/// Four threads at once, each on its own blocks: there is no state outside the buffers.
+fn threads(h: &mut Host) {
+    let workers: Vec<_> = (0..4)
+        .map(|seed| {
+            std::thread::spawn(move || {
+                let mut h = Host::new(100 + seed);
+                random_runs(&mut h, 1_000);
+                random_plans(&mut h, 1_000);
+                h.report
+            })
+        })
+        .collect();
+    for w in workers {
+        let r = w.join().expect("a thread ends");
+        h.report.cases += r.cases;
+        h.report.differences += r.differences;
+    }
+}
+
+/// Lengths of four gigabytes and some: not cut to 32 bits. The memory is only lent, never touched.
+fn giant_lengths(h: &mut Host) {
+    for &extra in &[12usize, 40, 43, 44, 511, 512] {
+        let n = (1usize << 32) + extra;
+        let layout = Layout::from_size_align(n, 16).unwrap();
+        let p = unsafe { alloc_zeroed(layout) };
+        if p.is_null() {
+            println!("host: not tried: lengths above four gigabytes (this machine does not lend so much)");
+            return;
+        }
+        let giant = unsafe { std::slice::from_raw_parts_mut(p, n) };
+        let block = Condition::power_up(0).to_block();
+        let mut small = block;
+        let mut t = ZERO;
+        let mut out = [0u8; 44];
+
+        giant[..BLOCK].copy_from_slice(&block);
+        let a = sign::run(giant, &mut t, &[0x41]);
+        let b = sign::plan(giant, &[0x41; 40], 0, &mut out);
+        h.report.expect(a == 1 && b == 257, || format!("block of {} bytes: answers {} and {}", n, a, b));
+        h.report.expect(giant[..BLOCK] == block && t == ZERO && out == [0; 44], || "a giant block changed".to_string());
+        giant[..BLOCK].fill(0);
+
+        let a = sign::run(&mut small, giant, &[0x41]);
+        let b = sign::run(&mut small, &mut t, giant);
+        h.report.expect(a == 1 && b == 4, || format!("tally or run of {} bytes: answers {} and {}", n, a, b));
+        let a = sign::plan(&small, giant, 0, &mut out);
+        h.report.expect(a == 257, || format!("{} codes: answer {}", n, a));
+        h.report.expect(small == block && t == ZERO && out == [0; 44], || "a refused call changed something".to_string());
+
+        let a = sign::plan(&small, &[0x41; 40], 39, giant);
+        h.report.expect(a == 43 && giant[..40] == [0x41; 40] && giant[43..1_000] == [0; 957], || {
+            format!("plan into {} bytes: answer {}", n, a)
+        });
+        let a = sign::power_up(0, giant);
+        h.report.expect(a == 0 && giant[..BLOCK] == block && giant[BLOCK..1_000] == [0; 488], || {
+            format!("power-up into {} bytes: answer {}", n, a)
+        });
+        h.report.cases += 7;
+        unsafe { dealloc(p, layout) };
+    }
+}
+
+fn main() {
+    let mut h = Host::new(3);
+    wrong_lengths(&mut h);
+    order_of_refusals(&mut h);
+    tallies(&mut h);
+    damaged_blocks(&mut h);
+    random_runs(&mut h, 40_000);
+    random_plans(&mut h, 40_000);
+    pieces(&mut h, 2_000);
+    long_day(&mut h);
+    threads(&mut h);
+    giant_lengths(&mut h);
+    println!("host: runs by answer 0 to 5: {:?}", &h.runs[..6]);
+    println!("host: plans accepted {}, by refusal 1 to 10: {:?}", h.plans[0], &h.plans[1..]);
+    println!("host: power-ups by answer: {} accepted, {} refused 3, {} refused 10", h.power_ups[0], h.power_ups[3], h.power_ups[10]);
+    for (n, met) in [(1, h.runs[1]), (2, h.runs[2]), (3, h.runs[3]), (4, h.runs[4]), (5, h.runs[5])] {
+        h.report.expect(met > 0, || format!("no run was refused {}", n));
+    }
+    for n in [0, 1, 2, 3, 6, 7, 8, 9, 10] {
+        let met = h.plans[n] > 0;
+        h.report.expect(met, || format!("no plan was answered {}", n));
+    }
+    h.report.end("host", 100_000);
+}

@@ -1,0 +1,251 @@
+//! Random inputs: byte strings that a host could send, and conditions that a module could be in.
+#![allow(dead_code)]
+
+use crate::module::{Condition, Half, User, CELLS};
+use crate::rng::Rng;
+
+/// What a string of commands is mostly made of.
+#[derive(Clone, Copy, Debug, PartialEq)]
+pub enum Flavour {
+    Text,
+    ScrollUp,
+    ScrollLeft,
+    UserCharacters,
+    Mixed,
+}
+
+pub const FLAVOURS: [Flavour; 5] =
+    [Flavour::Text, Flavour::ScrollUp, Flavour::ScrollLeft, Flavour::UserCharacters, Flavour::Mixed];
+
+/// Codes that make good user characters: letters, a blank, ADh, and codes that are commands.
+const USER_POOL: [u8; 34] = [
+    0x20, 0x21, 0x41, 0x42, 0x43, 0x48, 0x49, 0x4C, 0x53, 0x54, 0xAD, 0xFF, 0x00, 0x01, 0x07, 0x08, 0x09, 0x0A,
+    0x0B, 0x0C, 0x0D, 0x0E, 0x0F, 0x10, 0x11, 0x12, 0x13, 0x15, 0x18, 0x19, 0x1A, 0x1C, 0x1F, 0x80,
+];
+
+fn character(rng: &mut Rng) -> u8 {
+    if rng.once_in(12) {
+        rng.pick(&[0x20, 0xAD, 0xFF, 0x7F, 0x80])
+    } else if rng.once_in(3) {
+        0x20 + rng.below(0xE0) as u8
+    } else {
+        0x41 + rng.below(26) as u8
+    }
+}
+
+/// A place, most often near the end or the start of a line.
+pub fn place(rng: &mut Rng) -> usize {
+    if rng.once_in(3) {
+        rng.below(CELLS)
+    } else {
+        rng.pick(&[0, 1, 17, 18, 19, 20, 21, 37, 38, 39])
+    }
+}
+
+fn user_definition(rng: &mut Rng, esc_too: bool, out: &mut Vec<u8>) {
+    let code = if esc_too && rng.once_in(60) {
+        0x1B
+    } else if rng.once_in(5) {
+        let c = rng.byte();
+        if c == 0x1B {
+            0x1C
+        } else {
+            c
+        }
+    } else {
+        rng.pick(&USER_POOL)
+    };
+    out.extend_from_slice(&[0x1B, 0x43, code]);
+    for _ in 0..5 {
+        // data bytes that would be commands, or users, if they were not data
+        let d = if rng.once_in(2) { rng.pick(&USER_POOL) } else { rng.byte() };
+        out.push(d);
+    }
+}
+
+fn command(rng: &mut Rng, flavour: Flavour, esc_too: bool, out: &mut Vec<u8>) {
+    let kind = rng.below(100);
+    match flavour {
+        Flavour::Text => match kind {
+            0..=79 => out.push(character(rng)),
+            80..=89 => out.push(rng.pick(&[0x08, 0x09, 0x0A, 0x0C, 0x0D])),
+            90..=94 => out.extend_from_slice(&[0x1B, 0x48, place(rng) as u8]),
+            _ => command(rng, Flavour::Mixed, esc_too, out),
+        },
+        Flavour::ScrollUp => match kind {
+            0..=49 => out.push(character(rng)),
+            50..=69 => out.push(rng.pick(&[0x09, 0x0A, 0x0A, 0x0D])),
+            70..=84 => out.extend_from_slice(&[0x1B, 0x48, place(rng) as u8]),
+            85..=91 => out.push(0x12),
+            92..=93 => out.push(rng.pick(&[0x18, 0x19])),
+            _ => command(rng, Flavour::Mixed, esc_too, out),
+        },
+        Flavour::ScrollLeft => match kind {
+            0..=54 => out.push(character(rng)),
+            55..=59 => out.push(rng.pick(&[0x08, 0x09, 0x0A, 0x0C, 0x0D, 0x0E, 0x0F, 0x13])),
+            60..=79 => {
+                out.extend_from_slice(&[0x1B, 0x48, rng.pick(&[17, 18, 19, 19, 19, 37, 38, 39, 39, 39, 40])]);
+                out.push(character(rng));
+            }
+            80..=89 => out.push(0x13),
+            90..=92 => out.push(rng.pick(&[0x18, 0x19])),
+            93 => out.push(rng.byte() % 0x1B),
+            _ => command(rng, Flavour::Mixed, esc_too, out),
+        },
+        Flavour::UserCharacters => match kind {
+            0..=44 => user_definition(rng, esc_too, out),
+            45..=79 => out.push(rng.pick(&USER_POOL)),
+            80..=89 => out.push(character(rng)),
+            _ => command(rng, Flavour::Mixed, esc_too, out),
+        },
+        Flavour::Mixed => match kind {
+            0..=29 => out.push(character(rng)),
+            30..=59 => out.push(rng.byte() % 0x1B),
+            60..=69 => out.extend_from_slice(&[0x1B, 0x48, place(rng) as u8]),
+            70..=71 => out.extend_from_slice(&[0x1B, 0x48, rng.byte()]),
+            72..=74 => out.extend_from_slice(&[0x1B, 0x4C, rng.byte()]),
+            75..=77 => out.extend_from_slice(&[0x1B, 0x54, rng.byte()]),
+            78..=79 => out.extend_from_slice(&[0x1B, 0x53]),
+            80 => out.extend_from_slice(&[0x1B, 0x49]),
+            81..=84 => out.extend_from_slice(&[0x1B, rng.byte()]),
+            85..=94 => user_definition(rng, esc_too, out),
+            95..=97 => out.push(0x1C + rng.byte() % 4),
+            _ => out.push(rng.byte()),
+        },
+    }
+}
+
+/// Commands up to this many bytes; the last may be cut. Without `esc_too` no user character is put on
+/// 1Bh by purpose (it ends all commands for good).
+pub fn commands(rng: &mut Rng, length: usize, flavour: Flavour, esc_too: bool) -> Vec<u8> {
+    let mut out = Vec::new();
+    match flavour {
+        Flavour::ScrollUp => out.push(0x12),
+        Flavour::ScrollLeft => out.push(0x13),
+        _ => {}
+    }
+    while out.len() < length {
+        command(rng, flavour, esc_too, &mut out);
+    }
+    out.truncate(length);
+    out
+}
+
+/// Some bytes for a run: commands of one flavour, or bytes of any kind.
+pub fn some_bytes(rng: &mut Rng, length: usize) -> Vec<u8> {
+    match rng.below(8) {
+        0 => rng.bytes(length),
+        1 => commands(rng, length, Flavour::Text, true),
+        2 | 3 => commands(rng, length, Flavour::ScrollUp, true),
+        4 | 5 => commands(rng, length, Flavour::ScrollLeft, true),
+        6 => commands(rng, length, Flavour::UserCharacters, true),
+        _ => commands(rng, length, Flavour::Mixed, true),
+    }
+}
+
+/// Any well-formed condition.
+pub fn any_condition(rng: &mut Rng) -> Condition {
+    let mut c = Condition::power_up(rng.below(2) as u8);
+    match rng.below(4) {
+        0 => {}
+        1 => c.codes = [0; CELLS].map(|_: u8| character(rng)),
+        _ => c.codes = [0; CELLS].map(|_: u8| rng.byte()),
+    }
+    match rng.below(3) {
+        0 => {}
+        1 => c.fonts = [rng.below(2) as u8; CELLS],
+        _ => c.fonts = [0; CELLS].map(|_: u8| rng.below(2) as u8),
+    }
+    c.cursor = place(rng);
+    c.mode = 1 + rng.below(3) as u8;
+    c.scroll_on = c.mode == 3 && c.cursor % 20 == 19 && rng.once_in(2);
+    c.shown = rng.once_in(2);
+    c.font = rng.below(2) as u8;
+    c.euro = rng.once_in(2);
+    c.luminance = rng.below(4) as u8;
+    c.speed = rng.byte();
+    c.flickerless = rng.once_in(2);
+    let users = rng.pick(&[0, 0, 1, 2, 5, 15, 16]);
+    while c.count < users {
+        let code = if rng.once_in(2) { rng.pick(&USER_POOL) } else { rng.byte() };
+        if !c.is_user(code) && (code != 0x1B || rng.once_in(3)) {
+            let mut dots = [0; 5];
+            for d in dots.iter_mut() {
+                *d = rng.byte();
+            }
+            dots[4] %= 16;
+            c.users[c.count] = User { code, dots };
+            c.count += 1;
+        }
+    }
+    if !c.is_user(0x1B) {
+        c.half = any_half(rng);
+    }
+    debug_assert!(c.well_formed());
+    c
+}
+
+pub fn any_half(rng: &mut Rng) -> Half {
+    match rng.below(12) {
+        0 => Half::Esc,
+        1 => Half::Position,
+        2 => Half::Luminance,
+        3 => Half::Speed,
+        4 => Half::UserCode,
+        5 | 6 => {
+            let count = rng.below(5);
+            let mut held = [0; 4];
+            for h in held[..count].iter_mut() {
+                *h = rng.byte();
+            }
+            let code = if rng.once_in(4) { 0x1B } else { rng.byte() };
+            Half::UserData { code, count, held }
+        }
+        _ => Half::Nothing,
+    }
+}
+
+/// A condition that commands led to from power-up.
+pub fn reached_condition(rng: &mut Rng) -> Condition {
+    let mut c = Condition::power_up(rng.below(2) as u8);
+    let length = rng.below(200);
+    for b in some_bytes(rng, length) {
+        c.take(b);
+    }
+    c
+}
+
+/// 32,768 characters that can be printed, for the measure.
+pub fn printable(length: usize) -> Vec<u8> {
+    let mut rng = Rng::new(32);
+    (0..length).map(|_| 0x20 + rng.below(0x5F) as u8).collect()
+}
+
+/// Text and all commands mixed, for the measure. No user character comes onto 1Bh: it would end all
+/// commands.
+pub fn mixed(length: usize) -> Vec<u8> {
+    let mut rng = Rng::new(33);
+    let mut c = Condition::power_up(0);
+    let mut out = Vec::new();
+    while out.len() < length {
+        let flavour = rng.pick(&[Flavour::Text, Flavour::ScrollUp, Flavour::ScrollLeft, Flavour::Mixed]);
+        for _ in 0..20 {
+            let mut bytes = Vec::new();
+            command(&mut rng, flavour, false, &mut bytes);
+            let mut next = c.clone();
+            for &b in &bytes {
+                next.take(b);
+            }
+            let lost = match next.half {
+                Half::UserData { code, .. } => code == 0x1B,
+                _ => next.is_user(0x1B),
+            };
+            if !lost {
+                c = next;
+                out.extend_from_slice(&bytes);
+            }
+        }
+    }
+    out.truncate(length);
+    out
+}

@@ -1,0 +1,875 @@
+//! The 20x2 display module, written from its papers alone (document 01, the scope, and source 000, the
+//! module's specification) and not from the product's code. The product is compared with it.
+//!
+//! In this order: the condition; what a byte does, with its busy time; the run and its tally; what a
+//! cell shows; the block; the planner, by search; two further searches that confirm its fewest bytes;
+//! the three host calls.
+#![allow(dead_code)]
+
+pub const CELLS: usize = 40;
+pub const USERS: usize = 16;
+pub const BLOCK: usize = 512;
+pub const TALLY: usize = 12;
+pub const LONGEST_RUN: usize = 32_768;
+pub const LIMIT: u64 = 4_000_000_000;
+pub const PLAN_ROOM: usize = 44;
+
+/// The planner's one-byte moves, and ESC: a user character on one of these six stops all planning.
+pub const SINGLE_MOVES: [u8; 5] = [0x08, 0x09, 0x0A, 0x0C, 0x0D];
+pub const PLANNERS_CODES: [u8; 6] = [0x08, 0x09, 0x0A, 0x0C, 0x0D, 0x1B];
+
+// ---------------------------------------------------------------------------------- the condition
+
+/// The half-received command.
+#[derive(Clone, Copy, Debug, PartialEq, Eq)]
+pub enum Half {
+    Nothing,
+    Esc,
+    Position,
+    Luminance,
+    Speed,
+    UserCode,
+    UserData { code: u8, count: usize, held: [u8; 4] },
+}
+
+/// A user character: its code and five bytes of dots.
+#[derive(Clone, Copy, Debug, PartialEq, Eq)]
+pub struct User {
+    pub code: u8,
+    pub dots: [u8; 5],
+}
+
+const NO_USER: User = User { code: 0, dots: [0; 5] };
+
+#[derive(Clone, Debug, PartialEq, Eq)]
+pub struct Condition {
+    pub codes: [u8; CELLS],
+    pub fonts: [u8; CELLS],
+    pub cursor: usize,
+    pub mode: u8,
+    pub scroll_on: bool,
+    pub shown: bool,
+    pub font: u8,
+    pub default_font: u8,
+    pub euro: bool,
+    pub luminance: u8,
+    pub speed: u8,
+    pub flickerless: bool,
+    /// The user characters, oldest first; from `count` up all 0.
+    pub users: [User; USERS],
+    pub count: usize,
+    pub half: Half,
+}
+
+impl Condition {
+    pub fn power_up(font: u8) -> Condition {
+        Condition {
+            codes: [0x20; CELLS],
+            fonts: [font; CELLS],
+            cursor: 0,
+            mode: 1,
+            scroll_on: false,
+            shown: false,
+            font,
+            default_font: font,
+            euro: false,
+            luminance: 3,
+            speed: 0x14,
+            flickerless: false,
+            users: [NO_USER; USERS],
+            count: 0,
+            half: Half::Nothing,
+        }
+    }
+
+    pub fn well_formed(&self) -> bool {
+        let in_range = self.fonts.iter().all(|&f| f <= 1)
+            && self.cursor < CELLS
+            && (1..=3).contains(&self.mode)
+            && self.font <= 1
+            && self.default_font <= 1
+            && self.luminance <= 3
+            && self.count <= USERS;
+        if !in_range {
+            return false;
+        }
+        let (used, unused) = self.users.split_at(self.count);
+        let half_fits = match self.half {
+            Half::UserData { count, held, .. } => count <= 4 && held[count..].iter().all(|&d| d == 0),
+            _ => true,
+        };
+        half_fits
+            && unused.iter().all(|&u| u == NO_USER)
+            && used.iter().all(|u| u.dots[4] < 16)
+            && (0..self.count).all(|i| (0..i).all(|j| used[i].code != used[j].code))
+            && (!self.scroll_on || self.mode == 3 && self.cursor % 20 == 19)
+            && (!self.is_user(0x1B) || self.half == Half::Nothing)
+    }
+
+    pub fn place_of_user(&self, code: u8) -> Option<usize> {
+        self.users[..self.count].iter().position(|u| u.code == code)
+    }
+
+    pub fn is_user(&self, code: u8) -> bool {
+        self.place_of_user(code).is_some()
+    }
+
+    // ------------------------------------------------------------------------------ what a byte does
+
+    /// Takes one byte and answers how long the module is busy with it, in microseconds.
+    pub fn take(&mut self, b: u8) -> u64 {
+        if self.half != Half::Nothing {
+            return self.parameter(b);
+        }
+        if self.is_user(b) {
+            return self.write(b);
+        }
+        match b {
+            0x08 => {
+                if self.cursor % 20 != 0 {
+                    self.cursor -= 1;
+                }
+                self.scroll_on = false;
+                6
+            }
+            0x09 => {
+                if self.right() {
+                    20
+                } else {
+                    6
+                }
+            }
+            0x0A => {
+                self.scroll_on = false;
+                if self.cursor < 20 {
+                    self.cursor += 20;
+                } else if self.mode == 1 {
+                    self.cursor -= 20;
+                } else if self.mode == 2 {
+                    self.scroll();
+                    return 20;
+                }
+                6
+            }
+            0x0C => {
+                self.cursor = 0;
+                self.scroll_on = false;
+                6
+            }
+            0x0D => {
+                self.cursor -= self.cursor % 20;
+                self.scroll_on = false;
+                6
+            }
+            0x0E | 0x0F => {
+                self.clear(0);
+                self.scroll_on = false;
+                65
+            }
+            0x11 | 0x12 | 0x13 => {
+                self.mode = b - 0x10;
+                self.scroll_on = false;
+                6
+            }
+            0x15 => {
+                self.shown = true;
+                6
+            }
+            0x14 | 0x16 | 0x17 => {
+                self.shown = false;
+                6
+            }
+            0x18 => {
+                self.font = 0;
+                self.euro = false;
+                6
+            }
+            0x19 => {
+                self.font = 1;
+                6
+            }
+            0x1A => {
+                self.euro = true;
+                6
+            }
+            0x1B => {
+                self.half = Half::Esc;
+                6
+            }
+            0x20..=0xFF => self.write(b),
+            0x00..=0x07 | 0x0B | 0x10 | 0x1C..=0x1F => 6,
+        }
+    }
+
+    /// A byte that continues a half-received command. (Not inlined, so that other bytes don't pay for it.)
+    #[inline(never)]
+    fn parameter(&mut self, b: u8) -> u64 {
+        let half = self.half;
+        self.half = Half::Nothing;
+        match half {
+            Half::Nothing => unreachable!(),
+            Half::Esc => match b {
+                0x43 => {
+                    self.half = Half::UserCode;
+                    4
+                }
+                0x48 => {
+                    self.half = Half::Position;
+                    4
+                }
+                0x49 => {
+                    *self = Condition::power_up(self.default_font);
+                    40
+                }
+                0x4C => {
+                    self.half = Half::Luminance;
+                    4
+                }
+                0x53 => {
+                    self.flickerless = true;
+                    6
+                }
+                0x54 => {
+                    self.half = Half::Speed;
+                    4
+                }
+                _ => 6,
+            },
+            Half::Position => {
+                if b <= 0x27 {
+                    self.cursor = b as usize;
+                    self.scroll_on = false;
+                }
+                4
+            }
+            Half::Luminance => {
+                self.luminance = b / 64;
+                4
+            }
+            Half::Speed => {
+                self.speed = b;
+                6
+            }
+            Half::UserCode => {
+                self.half = Half::UserData { code: b, count: 0, held: [0; 4] };
+                6
+            }
+            Half::UserData { code, count, mut held } => {
+                if count < 4 {
+                    held[count] = b;
+                    self.half = Half::UserData { code, count: count + 1, held };
+                    6
+                } else {
+                    self.define(User { code, dots: [held[0], held[1], held[2], held[3], b & 0x0F] });
+                    15
+                }
+            }
+        }
+    }
+
+    /// A code already defined keeps its age; a new one is youngest; with 16 held the oldest goes.
+    fn define(&mut self, user: User) {
+        if let Some(i) = self.place_of_user(user.code) {
+            self.users[i] = user;
+        } else if self.count < USERS {
+            self.users[self.count] = user;
+            self.count += 1;
+        } else {
+            self.users.rotate_left(1);
+            self.users[USERS - 1] = user;
+        }
+    }
+
+    fn write(&mut self, b: u8) -> u64 {
+        let here = self.cursor;
+        if self.mode == 3 && (here == 19 || here == 39) {
+            let shifts = self.scroll_on;
+            if shifts {
+                self.codes.copy_within(here - 18..here + 1, here - 19);
+                self.fonts.copy_within(here - 18..here + 1, here - 19);
+            }
+            self.scroll_on = true;
+            self.codes[here] = b;
+            self.fonts[here] = self.font;
+            return if shifts { 20 } else { 7 };
+        }
+        self.codes[here] = b;
+        self.fonts[here] = self.font;
+        if self.right() {
+            20
+        } else {
+            7
+        }
+    }
+
+    /// 09h; answers whether the display scrolled.
+    fn right(&mut self) -> bool {
+        match (self.cursor, self.mode) {
+            (19, 3) | (39, 3) => {}
+            (39, 1) => self.cursor = 0,
+            (39, _) => {
+                self.scroll();
+                self.cursor = 20;
+                return true;
+            }
+            _ => self.cursor += 1,
+        }
+        false
+    }
+
+    fn scroll(&mut self) {
+        self.codes.copy_within(20..40, 0);
+        self.fonts.copy_within(20..40, 0);
+        self.clear(20);
+    }
+
+    fn clear(&mut self, from: usize) {
+        self.codes[from..].fill(0x20);
+        self.fonts[from..].fill(self.font);
+    }
+}
+
+// --------------------------------------------------------------------------- the run and its tally
+
+#[derive(Clone, Copy, Debug, PartialEq, Eq)]
+pub struct Tally {
+    pub bytes: u64,
+    pub busy: u64,
+    pub flickerless: u64,
+}
+
+impl Tally {
+    pub const ZERO: Tally = Tally { bytes: 0, busy: 0, flickerless: 0 };
+
+    fn above_limit(&self) -> bool {
+        self.bytes > LIMIT || self.busy > LIMIT || self.flickerless > LIMIT
+    }
+
+    /// As a host keeps it: three numbers of four bytes, low byte first.
+    pub fn to_bytes(&self) -> [u8; TALLY] {
+        let mut out = [0; TALLY];
+        for (i, n) in [self.bytes, self.busy, self.flickerless].iter().enumerate() {
+            out[i * 4..i * 4 + 4].copy_from_slice(&(*n as u32).to_le_bytes());
+        }
+        out
+    }
+
+    pub fn from_bytes(b: &[u8]) -> Tally {
+        let at = |i: usize| u32::from_le_bytes([b[i], b[i + 1], b[i + 2], b[i + 3]]) as u64;
+        Tally { bytes: at(0), busy: at(4), flickerless: at(8) }
+    }
+}
+
+/// All bytes in turn, or the refusal 3, 4 or 5.
+pub fn run(from: &Condition, tally: &Tally, bytes: &[u8]) -> Result<(Condition, Tally), u32> {
+    if !from.well_formed() || tally.above_limit() {
+        return Err(3);
+    }
+    if bytes.len() > LONGEST_RUN {
+        return Err(4);
+    }
+    let mut c = from.clone();
+    let mut t = *tally;
+    for &b in bytes {
+        t.bytes += 1;
+        if c.flickerless {
+            t.flickerless += 1;
+        }
+        t.busy += c.take(b);
+    }
+    if t.above_limit() {
+        return Err(5);
+    }
+    Ok((c, t))
+}
+
+// ------------------------------------------------------------------------------- what a cell shows
+
+#[derive(Clone, Copy, Debug, PartialEq, Eq)]
+pub enum Shows {
+    User(u8),
+    Blank,
+    Euro,
+    BuiltIn { code: u8, font: u8 },
+}
+
+impl Condition {
+    pub fn shows(&self, position: usize) -> Shows {
+        let (code, font) = (self.codes[position], self.fonts[position]);
+        if self.is_user(code) {
+            Shows::User(code)
+        } else if code < 0x20 {
+            Shows::Blank
+        } else if code == 0xAD && font == 0 {
+            if self.euro {
+                Shows::Euro
+            } else {
+                Shows::Blank
+            }
+        } else {
+            Shows::BuiltIn { code, font }
+        }
+    }
+
+    /// Is dot Pk of the user character lit?
+    pub fn dot(&self, code: u8, k: usize) -> Result<bool, u32> {
+        let i = self.place_of_user(code).ok_or(3u32)?;
+        if !(1..=35).contains(&k) {
+            return Err(3);
+        }
+        Ok(self.users[i].dots[(k - 1) / 8] >> ((k - 1) % 8) & 1 == 1)
+    }
+
+    pub fn underline(&self, code: u8) -> Result<bool, u32> {
+        let i = self.place_of_user(code).ok_or(3u32)?;
+        Ok(self.users[i].dots[4] >> 3 & 1 == 1)
+    }
+
+    /// How many of the 35 dots are lit.
+    pub fn lit(&self, code: u8) -> Result<usize, u32> {
+        let mut n = 0;
+        for k in 1..=35 {
+            if self.dot(code, k)? {
+                n += 1;
+            }
+        }
+        Ok(n)
+    }
+}
+
+// --------------------------------------------------------------------------------------- the block
+
+/// The check of a block: the sum of (i+1) times byte i, i 0 to 509, mod 65,521.
+pub fn check_of(block: &[u8]) -> u16 {
+    let mut sum = 0u64;
+    for i in 0..510 {
+        sum += (i as u64 + 1) * block[i] as u64;
+    }
+    (sum % 65_521) as u16
+}
+
+/// Puts the right check into a block of 512 bytes.
+pub fn seal(block: &mut [u8]) {
+    let check = check_of(block);
+    block[510] = check as u8;
+    block[511] = (check >> 8) as u8;
+}
+
+impl Condition {
+    pub fn to_block(&self) -> [u8; BLOCK] {
+        let mut b = [0; BLOCK];
+        b[0] = 0x56;
+        b[1] = 0x4B;
+        b[2] = 0x01;
+        b[3] = self.cursor as u8;
+        b[4] = self.mode;
+        b[5] = self.scroll_on as u8;
+        b[6] = self.shown as u8;
+        b[7] = self.font;
+        b[8] = self.default_font;
+        b[9] = self.euro as u8;
+        b[10] = self.luminance;
+        b[11] = self.speed;
+        b[12] = self.flickerless as u8;
+        b[13] = match self.half {
+            Half::Nothing => 0,
+            Half::Esc => 1,
+            Half::Position => 2,
+            Half::Luminance => 3,
+            Half::Speed => 4,
+            Half::UserCode => 5,
+            Half::UserData { .. } => 6,
+        };
+        if let Half::UserData { code, count, held } = self.half {
+            b[14] = code;
+            b[15] = count as u8;
+            b[16..20].copy_from_slice(&held);
+        }
+        b[20] = self.count as u8;
+        b[24..64].copy_from_slice(&self.codes);
+        b[64..104].copy_from_slice(&self.fonts);
+        for (i, u) in self.users.iter().enumerate() {
+            b[104 + 6 * i] = u.code;
+            b[105 + 6 * i..110 + 6 * i].copy_from_slice(&u.dots);
+        }
+        seal(&mut b);
+        b
+    }
+
+    /// The condition in a block, or the refusal 1, 2 or 3.
+    pub fn from_block(b: &[u8]) -> Result<Condition, u32> {
+        if b.len() != BLOCK {
+            return Err(1);
+        }
+        let check = b[510] as u16 + 256 * b[511] as u16;
+        if b[..3] != [0x56, 0x4B, 0x01] || check != check_of(b) {
+            return Err(2);
+        }
+        let unused = |from: usize, to: usize| b[from..to].iter().any(|&x| x != 0);
+        let flag = |i: usize| match b[i] {
+            0 => Ok(false),
+            1 => Ok(true),
+            _ => Err(3u32),
+        };
+        if unused(21, 24) || unused(200, 510) {
+            return Err(3);
+        }
+        let half = match b[13] {
+            0 => Half::Nothing,
+            1 => Half::Esc,
+            2 => Half::Position,
+            3 => Half::Luminance,
+            4 => Half::Speed,
+            5 => Half::UserCode,
+            6 => Half::UserData {
+                code: b[14],
+                count: b[15] as usize,
+                held: [b[16], b[17], b[18], b[19]],
+            },
+            _ => return Err(3),
+        };
+        if b[13] != 6 && unused(14, 20) {
+            return Err(3);
+        }
+        let mut c = Condition::power_up(0);
+        c.codes.copy_from_slice(&b[24..64]);
+        c.fonts.copy_from_slice(&b[64..104]);
+        c.cursor = b[3] as usize;
+        c.mode = b[4];
+        c.scroll_on = flag(5)?;
+        c.shown = flag(6)?;
+        c.font = b[7];
+        c.default_font = b[8];
+        c.euro = flag(9)?;
+        c.luminance = b[10];
+        c.speed = b[11];
+        c.flickerless = flag(12)?;
+        c.half = half;
+        c.count = b[20] as usize;
+        for (i, u) in c.users.iter_mut().enumerate() {
+            u.code = b[104 + 6 * i];
+            u.dots.copy_from_slice(&b[105 + 6 * i..110 + 6 * i]);
+        }
+        if c.well_formed() {
+            Ok(c)
+        } else {
+            Err(3)
+        }
+    }
+}
+
+// -------------------------------------------------------------------------------------- the planner
+
+/// Where the cursor is after these bytes in mode 1, by the interpreter above.
+fn lands(from: usize, bytes: &[u8]) -> usize {
+    let mut c = Condition::power_up(0);
+    c.cursor = from;
+    for &b in bytes {
+        c.take(b);
+    }
+    c.cursor
+}
+
+/// For each two places the shortest string of moves, and of equals the smallest.
+pub struct Moves {
+    paths: Vec<Option<Vec<u8>>>,
+    /// Where each single move leads from each place.
+    single: Vec<[usize; 5]>,
+}
+
+impl Moves {
+    /// Tries every string of moves of no bytes, of one, two and three, in rising order at each length,
+    /// from each place: the first that gets somewhere is the one.
+    pub fn new() -> Moves {
+        let mut strings: Vec<Vec<u8>> = vec![vec![]];
+        let mut last = strings.clone();
+        for _ in 0..3 {
+            let mut next = Vec::new();
+            for s in &last {
+                for &m in &SINGLE_MOVES {
+                    let mut s = s.clone();
+                    s.push(m);
+                    next.push(s);
+                }
+            }
+            strings.extend(next.iter().cloned());
+            last = next;
+        }
+        strings.extend((0..CELLS as u8).map(|p| vec![0x1B, 0x48, p]));
+
+        let mut paths = vec![None; CELLS * CELLS];
+        for from in 0..CELLS {
+            for s in &strings {
+                let path = &mut paths[from * CELLS + lands(from, s)];
+                if path.is_none() {
+                    *path = Some(s.clone());
+                }
+            }
+        }
+        let single = (0..CELLS).map(|p| SINGLE_MOVES.map(|m| lands(p, &[m]))).collect();
+        Moves { paths, single }
+    }
+
+    pub fn path(&self, from: usize, to: usize) -> &[u8] {
+        self.paths[from * CELLS + to].as_ref().expect("a position command goes everywhere")
+    }
+}
+
+impl Condition {
+    pub fn is_wrong(&self, position: usize, wanted: &[u8]) -> bool {
+        self.codes[position] != wanted[position] || self.fonts[position] != self.font
+    }
+}
+
+/// Why there is no plan: 3, 6, 7, 8 or 9; 0 if there is one.
+pub fn plan_refusal(c: &Condition, wanted: &[u8], asked: u32) -> u32 {
+    if !c.well_formed() || asked >= CELLS as u32 {
+        3
+    } else if c.half != Half::Nothing {
+        6
+    } else if c.mode != 1 {
+        7
+    } else if PLANNERS_CODES.iter().any(|&m| c.is_user(m)) {
+        8
+    } else if wanted.iter().any(|&w| w < 0x20 && !c.is_user(w)) {
+        9
+    } else {
+        0
+    }
+}
+
+/// The plan: the wrong cells in reading order, with the shortest way to each and to the asked cursor.
+pub fn plan(c: &Condition, wanted: &[u8], asked: u32, moves: &Moves) -> Result<Vec<u8>, u32> {
+    let refusal = plan_refusal(c, wanted, asked);
+    if refusal != 0 {
+        return Err(refusal);
+    }
+    let mut out = Vec::new();
+    let mut at = c.cursor;
+    for p in 0..CELLS {
+        if c.is_wrong(p, wanted) {
+            out.extend_from_slice(moves.path(at, p));
+            out.push(wanted[p]);
+            at = (p + 1) % CELLS;
+        }
+    }
+    out.extend_from_slice(moves.path(at, asked as usize));
+    Ok(out)
+}
+
+// ------------------------------------------------------------- two searches that confirm fewest bytes
+
+/// The fewest bytes of any reading-order string, right cells written too, that gives the picture and
+/// the asked cursor: shortest ways over (next cell that may still be written, cursor). A cell that is
+/// passed by can't be written any more, and a cell written with another code than the wanted one can't
+/// be mended, so these are all the strings that can count.
+pub fn fewest_bytes(c: &Condition, wanted: &[u8], asked: usize, moves: &Moves) -> usize {
+    const FAR: usize = 1_000_000;
+    let mut all = [[FAR; CELLS]; CELLS + 1];
+    all[0][c.cursor] = 0;
+    for free in 0..=CELLS {
+        let mut d = all[free];
+        // a position command from the nearest place, then single moves until nothing gets shorter
+        let jump = d.iter().min().unwrap() + 3;
+        for x in d.iter_mut() {
+            *x = jump.min(*x);
+        }
+        let mut changed = true;
+        while changed {
+            changed = false;
+            for p in 0..CELLS {
+                for &l in &moves.single[p] {
+                    if d[p] + 1 < d[l] {
+                        d[l] = d[p] + 1;
+                        changed = true;
+                    }
+                }
+            }
+        }
+        // a write at p: no wrong cell may be left behind it
+        for p in free..CELLS {
+            let after = &mut all[p + 1][(p + 1) % CELLS];
+            *after = (*after).min(d[p] + 1);
+            if c.is_wrong(p, wanted) {
+                break;
+            }
+        }
+        all[free] = d;
+    }
+    let mut best = FAR;
+    for free in 0..=CELLS {
+        if (free..CELLS).all(|p| !c.is_wrong(p, wanted)) {
+            best = best.min(all[free][asked]);
+        }
+    }
+    best
+}
+
+/// What the search over the strings themselves found.
+pub struct Found {
+    /// The length of the shortest reading-order strings that give the picture.
+    pub fewest: usize,
+    /// The smallest of those that write only wrong cells.
+    pub smallest: Option<Vec<u8>>,
+    pub strings: u64,
+}
+
+/// Runs every reading-order string of at most `most` bytes through the interpreter, byte by byte.
+/// With `every_code` each cell is written with every code that can be written, otherwise only with the
+/// wanted one (any other can't be mended).
+pub fn try_all_strings(c: &Condition, wanted: &[u8], asked: usize, most: usize, every_code: bool) -> Option<Found> {
+    let mut search = Search {
+        start: c,
+        wanted,
+        asked,
+        every_code,
+        string: Vec::new(),
+        only_wrong: true,
+        best: None,
+        strings: 0,
+    };
+    // shorter strings first, so that the first length with a hit is the fewest
+    for length in 0..=most {
+        search.from(c, 0, length);
+        if search.best.is_some() {
+            break;
+        }
+    }
+    let strings = search.strings;
+    search.best.map(|(fewest, smallest)| Found { fewest, smallest, strings })
+}
+
+struct Search<'a> {
+    start: &'a Condition,
+    wanted: &'a [u8],
+    asked: usize,
+    every_code: bool,
+    string: Vec<u8>,
+    only_wrong: bool,
+    best: Option<(usize, Option<Vec<u8>>)>,
+    strings: u64,
+}
+
+impl<'a> Search<'a> {
+    /// All strings of exactly `left` bytes more, with writes from the cell `free` up.
+    fn from(&mut self, c: &Condition, free: usize, left: usize) {
+        if left == 0 {
+            self.strings += 1;
+            if c.cursor == self.asked && c.codes[..] == *self.wanted && c.fonts.iter().all(|&f| f == c.font) {
+                let length = self.string.len();
+                let best = self.best.get_or_insert((length, None));
+                if self.only_wrong && best.1.as_ref().map_or(true, |s| self.string < *s) {
+                    best.1 = Some(self.string.clone());
+                }
+            }
+            return;
+        }
+        for &m in &SINGLE_MOVES {
+            self.step(c, &[m], free, left);
+        }
+        if left >= 3 {
+            for p in 0..CELLS as u8 {
+                self.step(c, &[0x1B, 0x48, p], free, left);
+            }
+        }
+        let here = c.cursor;
+        if here >= free {
+            let was = self.only_wrong;
+            self.only_wrong = was && self.start.is_wrong(here, self.wanted);
+            if self.every_code {
+                for b in 0..=255u8 {
+                    if b >= 0x20 || c.is_user(b) {
+                        self.step(c, &[b], here + 1, left);
+                    }
+                }
+            } else {
+                self.step(c, &[self.wanted[here]], here + 1, left);
+            }
+            self.only_wrong = was;
+        }
+    }
+
+    fn step(&mut self, c: &Condition, bytes: &[u8], free: usize, left: usize) {
+        let mut next = c.clone();
+        for &b in bytes {
+            next.take(b);
+            self.string.push(b);
+        }
+        self.from(&next, free, left - bytes.len());
+        self.string.truncate(self.string.len() - bytes.len());
+    }
+}
+
+// ------------------------------------------------------------------------------ the three host calls
+
+pub fn host_run(block: &mut [u8], tally: &mut [u8], bytes: &[u8]) -> u32 {
+    if block.len() != BLOCK || tally.len() != TALLY {
+        return 1;
+    }
+    let c = match Condition::from_block(block) {
+        Ok(c) => c,
+        Err(n) => return n,
+    };
+    match run(&c, &Tally::from_bytes(tally), bytes) {
+        Ok((c, t)) => {
+            block.copy_from_slice(&c.to_block());
+            tally.copy_from_slice(&t.to_bytes());
+            0
+        }
+        Err(n) => n,
+    }
+}
+
+pub fn host_plan(block: &[u8], codes: &[u8], cursor: u32, out: &mut [u8], moves: &Moves) -> u32 {
+    if block.len() != BLOCK || codes.len() != CELLS {
+        return 256 + 1;
+    }
+    let c = match Condition::from_block(block) {
+        Ok(c) => c,
+        Err(n) => return 256 + n,
+    };
+    match plan(&c, codes, cursor, moves) {
+        Err(n) => 256 + n,
+        Ok(_) if out.len() < PLAN_ROOM => 256 + 10,
+        Ok(bytes) => {
+            out[..bytes.len()].copy_from_slice(&bytes);
+            bytes.len() as u32
+        }
+    }
+}
+
+pub fn host_power_up(font: u32, block: &mut [u8]) -> u32 {
+    if font > 1 {
+        return 3;
+    }
+    if block.len() < BLOCK {
+        return 10;
+    }
+    block[..BLOCK].copy_from_slice(&Condition::power_up(font as u8).to_block());
+    0
+}
+
+// ----------------------------------------------------------------------------- what `show` prints
+
+pub fn show(input: &[u8]) -> String {
+    match run(&Condition::power_up(0), &Tally::ZERO, input) {
+        Err(n) => format!("refused {}\n", n),
+        Ok((c, t)) => {
+            let line = |codes: &[u8]| {
+                let hex: Vec<String> = codes.iter().map(|x| format!("{:02X}", x)).collect();
+                hex.join(" ")
+            };
+            format!(
+                "{}\n{}\ncursor {} mode {} font {}\nbytes {} busy {} flickerless {}\n",
+                line(&c.codes[..20]),
+                line(&c.codes[20..]),
+                c.cursor,
+                c.mode,
+                c.font,
+                t.bytes,
+                t.busy,
+                t.flickerless
+            )
+        }
+    }
+}

@@ -1,0 +1,81 @@
+//! The product's three C functions (include/sign.h), on buffers with guard bytes on both sides.
+#![allow(dead_code)]
+
+use crate::rng::Rng;
+
+extern "C" {
+    fn sign_run(
+        block: *mut u8,
+        block_len: usize,
+        tally: *mut u8,
+        tally_len: usize,
+        bytes: *const u8,
+        bytes_len: usize,
+    ) -> u32;
+    fn sign_plan(
+        block: *const u8,
+        block_len: usize,
+        codes: *const u8,
+        codes_len: usize,
+        cursor: u32,
+        out: *mut u8,
+        out_len: usize,
+    ) -> u32;
+    fn sign_power_up(font: u32, block: *mut u8, block_len: usize) -> u32;
+}
+
+pub fn run(block: &mut [u8], tally: &mut [u8], bytes: &[u8]) -> u32 {
+    unsafe {
+        sign_run(block.as_mut_ptr(), block.len(), tally.as_mut_ptr(), tally.len(), bytes.as_ptr(), bytes.len())
+    }
+}
+
+pub fn plan(block: &[u8], codes: &[u8], cursor: u32, out: &mut [u8]) -> u32 {
+    unsafe {
+        sign_plan(block.as_ptr(), block.len(), codes.as_ptr(), codes.len(), cursor, out.as_mut_ptr(), out.len())
+    }
+}
+
+pub fn power_up(font: u32, block: &mut [u8]) -> u32 {
+    unsafe { sign_power_up(font, block.as_mut_ptr(), block.len()) }
+}
+
+/// Bytes to lend, at any alignment, between guard bytes.
+pub struct Lent {
+    all: Vec<u8>,
+    before: Vec<u8>,
+    from: usize,
+    to: usize,
+}
+
+impl Lent {
+    pub fn new(content: &[u8], rng: &mut Rng) -> Lent {
+        let from = 16 + rng.below(16);
+        let to = from + content.len();
+        let mut all = vec![0; to + 16 + rng.below(16)];
+        let pattern = rng.byte() | 1;
+        for (i, g) in all.iter_mut().enumerate() {
+            *g = (i as u8).wrapping_mul(pattern) ^ 0xA5;
+        }
+        all[from..to].copy_from_slice(content);
+        Lent { before: all.clone(), all, from, to }
+    }
+
+    pub fn bytes(&self) -> &[u8] {
+        &self.all[self.from..self.to]
+    }
+
+    pub fn bytes_mut(&mut self) -> &mut [u8] {
+        &mut self.all[self.from..self.to]
+    }
+
+    /// The guard bytes are as they were.
+    pub fn guarded(&self) -> bool {
+        self.all[..self.from] == self.before[..self.from] && self.all[self.to..] == self.before[self.to..]
+    }
+
+    /// All is as it was, guard bytes too.
+    pub fn untouched(&self) -> bool {
+        self.all == self.before
+    }
+}

@@ -1,0 +1,102 @@
+#!/bin/sh
+# Builds and runs one test: tests/run.sh self | show | host | plans | alike | c-host | example
+# or the measure: tests/run.sh speed. See tests/README.md.
+set -eu
+cd "$(dirname "$0")/.."
+. tests/tools.sh
+out=target/tests
+mkdir -p "$out"
+
+# Is this product missing, or older than its sources?
+stale() { [ ! -e "$1" ] || [ -n "$(find crates crates.txt -newer "$1" 2>/dev/null | head -n 1)" ]; }
+show_program() { if stale target/bin/show; then rt check show; fi; }
+library() { if stale target/staticlib/libsign.a; then rt staticlib sign; fi; }
+
+# alone NAME: a test program of this machine; linked NAME WORDS: one that is linked with libsign.a
+alone() { $OWN_RUSTC --edition 2021 -O -C overflow-checks=on -o "$out/$1" "tests/independent/$1.rs"; }
+linked() {
+    library
+    name=$1
+    shift
+    $RUSTC --edition 2021 -O "$@" -L native=target/staticlib -l static=sign -o "$out/$name" "tests/independent/$name.rs"
+}
+c_program() { # NAME FILE
+    library
+    $CC -std=c11 -pedantic -Wall -Wextra -O2 -Iinclude -static -o "$out/$1" "$2" target/staticlib/libsign.a
+}
+
+# count WORDS: the instructions that the program takes. By qemu's plug-in, valgrind or perf: the first that works.
+choose_counter() {
+    counter=
+    if command -v qemu-x86_64 >/dev/null && gcc -shared -fPIC -O2 -o "$out/icount.so" tests/icount.c 2>/dev/null &&
+        qemu-x86_64 -plugin "$out/icount.so" "$out/speed" own printable 0 2>&1 | grep -q '^insns '; then
+        counter=qemu
+    elif [ -z "$RUN" ]; then
+        command -v valgrind >/dev/null || command -v perf >/dev/null || install_packages valgrind
+        if command -v valgrind >/dev/null; then counter=valgrind; else counter=perf; fi
+    fi
+    [ -n "$counter" ] || { echo "speed: no way to count instructions here (qemu-user with plug-ins, or valgrind)" >&2; exit 1; }
+}
+count() {
+    case $counter in
+    qemu) qemu-x86_64 -plugin "$out/icount.so" "$out/speed" "$@" 2>&1 >/dev/null | sed -n 's/^insns //p' ;;
+    valgrind) valgrind --tool=callgrind --callgrind-out-file=/dev/null "$out/speed" "$@" 2>&1 >/dev/null | sed -n 's/.*Collected : //p' ;;
+    perf) perf stat -x, -e instructions:u "$out/speed" "$@" 2>&1 >/dev/null | sed -n 's/,.*instructions.*//p' ;;
+    esac
+}
+# each WHO WHAT: instructions for each input byte, times 100
+each() {
+    four=$(count "$1" "$2" 4)
+    none=$(count "$1" "$2" 0)
+    case $four$none in '' | *[!0-9]*) echo "speed: the count failed" >&2; exit 1 ;; esac
+    echo $(((four - none) * 100 / 4 / 32768))
+}
+decimal() { printf '%d.%02d' $(($1 / 100)) $(($1 % 100)); }
+
+case ${1:-} in
+self)
+    alone self
+    "$out/self"
+    ;;
+show)
+    show_program
+    alone show
+    # shellcheck disable=SC2086
+    "$out/show" $RUN target/bin/show
+    ;;
+host | plans)
+    linked "$1" -C overflow-checks=on
+    $RUN "$out/$1"
+    ;;
+alike)
+    linked speed
+    $RUN "$out/speed" check
+    ;;
+c-host)
+    c_program c-host tests/host.c
+    said=$($RUN "$out/c-host") || { printf '%s\n' "$said"; exit 1; }
+    printf '%s\n' "$said"
+    [ "$said" = ok ]
+    ;;
+example)
+    c_program example examples/host.c
+    $RUN "$out/example" >"$out/example.txt"
+    cat "$out/example.txt"
+    diff examples/host.txt "$out/example.txt"
+    ;;
+speed)
+    linked speed
+    $RUN "$out/speed" check
+    choose_counter
+    echo "speed: instructions for each input byte, from power-up on 32,768 bytes, counted by $counter on $(uname -m), $($RUSTC --version)"
+    for what in printable mixed; do
+        own=$(each own "$what")
+        sign=$(each sign "$what")
+        echo "speed: $what: independent Rust $(decimal "$own"), sign_run $(decimal "$sign"), ratio $(decimal $((sign * 100 / own)))"
+    done
+    ;;
+*)
+    echo "usage: tests/run.sh self | show | host | plans | alike | c-host | example | speed" >&2
+    exit 2
+    ;;
+esac
