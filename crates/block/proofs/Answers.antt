@@ -1,0 +1,105 @@
+-- What each way through a reading and a writing comes to.
+use Prim.Native.Nat.{ℕ, _≤_, _<_}
+use mathlib.Core.Path.{_≡_, refl, ap, sym, _∙_}
+use mathlib.Core.Bool.{Bool, true, false, cond, not, _&&_}
+use mathlib.Core.List.{List, _++_}
+use native.Mathlib.Omega.{arith}
+use lib.Dec.{eqb, ltb}
+use lib.ListN.{length, take, drop}
+use lib.Seq.{take-at}
+use borrow.Author.Tests.{eq-eqb, ne-eqb, lt-ltb, le-ltb}
+use Rattle.condition.specs.declared.Condition.{Condition}
+use Rattle.condition.specs.declared.Outcome.{Outcome}
+use Rattle.condition.specs.Condition.{wellFormed}
+use Rattle.block.specs.declared.Written.{Written}
+use Rattle.block.specs.Layout.{conditionIn}
+use Rattle.block.specs.Block.{blockOf}
+use Rattle.block.specs.Reading.{sameBytes, intact, sound, readRefusal, refusedOf, readAnswer, ReadPromise}
+use Rattle.block.specs.Writing.{writeRefusal, writeAnswer, writeOut, WritePromise}
+use Rattle.block.specs.Tidy.{tidy}
+use Rattle.condition.proofs.Good.{Sized}
+use Rattle.block.proofs.Sealing.{length-block}
+use Rattle.block.proofs.Tidying.{tidy-same}
+use Rattle.block.proofs.RoundTrip.{reread, rewritten, read-formed}
+
+-- A reading ----------------------------------------------------------------------------------------------------------------
+
+promised : (b : List ℕ) (r : Outcome) → r ≡ readAnswer b → ReadPromise b r
+promised b r e =
+    record {
+      answer = e;
+      formed = ap (λ (r : Outcome). wellFormed (r .condition)) e ∙ read-formed b;
+      again = λ h. ap (λ (r : Outcome). blockOf (r .condition)) e ∙ rewritten b (sym (ap (λ (r : Outcome). r .refusal) e) ∙ h);
+    }
+
+-- refused, by its number
+unread : (b : List ℕ) (r : Outcome) (n : ℕ) → r ≡ refusedOf n → readRefusal b ≡ n → (n ≡ 0 → ⊥) → ReadPromise b r
+unfolding readAnswer
+unread b r n e f h = promised b r (e ∙ sym (rw (f, ne-eqb n 0 h)))
+
+pub wrong-length : (b : List ℕ) (r : Outcome) → r ≡ refusedOf 1 → (length b ≡ 512 → ⊥) → ReadPromise b r
+unfolding readRefusal
+wrong-length b r e h = unread b r 1 e (rw (ne-eqb (length b) 512 h)) (λ z. omega arith)
+
+pub broken : (b : List ℕ) (r : Outcome) → r ≡ refusedOf 2 → length b ≡ 512 → intact b ≡ false → ReadPromise b r
+unfolding readRefusal
+broken b r e h i = unread b r 2 e (rw (eq-eqb (length b) 512 h, i)) (λ z. omega arith)
+
+unsound : (b : List ℕ) (r : Outcome) → r ≡ refusedOf 3 → length b ≡ 512 → intact b ≡ true → sound b ≡ false → ReadPromise b r
+unfolding readRefusal
+unsound b r e h i s = unread b r 3 e (rw (eq-eqb (length b) 512 h, i, s)) (λ z. omega arith)
+
+-- sound is well formed and tidy
+judged : (b : List ℕ) → length b ≡ 512 → intact b ≡ true → (w t : Bool) → wellFormed (conditionIn b) ≡ w → tidy b ≡ t → sound b ≡ (w && t)
+unfolding sound
+judged b h i w t ew et = rw (ew, ← tidy-same b h i, et)
+
+neither : (w : Bool) → (w && false) ≡ false
+neither true = refl
+neither false = refl
+
+pub untidy : (b : List ℕ) (r : Outcome) → r ≡ refusedOf 3 → length b ≡ 512 → intact b ≡ true → tidy b ≡ false → ReadPromise b r
+untidy b r e h i t = unsound b r e h i (judged b h i (wellFormed (conditionIn b)) false refl t ∙ neither (wellFormed (conditionIn b)))
+
+pub unformed : (b : List ℕ) (r : Outcome) → r ≡ refusedOf 3 → length b ≡ 512 → intact b ≡ true → wellFormed (conditionIn b) ≡ false → ReadPromise b r
+unformed b r e h i w = unsound b r e h i (judged b h i false (tidy b) w refl)
+
+pub taken : (b : List ℕ) (c : Condition) → c ≡ conditionIn b → length b ≡ 512 → intact b ≡ true → tidy b ≡ true → wellFormed (conditionIn b) ≡ true
+    → ReadPromise b (record { refusal = 0; condition = c })
+unfolding readAnswer readRefusal
+taken b c e h i t w =
+    let s : sound b ≡ true = judged b h i true true w t in
+    promised b (record { refusal = 0; condition = c }) (rw (eq-eqb (length b) 512 h, i, s, e))
+
+-- A writing ----------------------------------------------------------------------------------------------------------------
+
+unwritten : (c : Condition) (out : List ℕ) (n : ℕ) → writeRefusal c out ≡ n → (n ≡ 0 → ⊥) → WritePromise c out (record { refusal = n; length = 0 }) out
+unfolding writeAnswer writeOut
+unwritten c out n e h =
+    record { answer = rw (e, ne-eqb n 0 h); buffer = rw (e, ne-eqb n 0 h); back = λ z. absurd (h z) }
+
+pub not-formed : (c : Condition) (out : List ℕ) → wellFormed c ≡ false → WritePromise c out (record { refusal = 3; length = 0 }) out
+unfolding writeRefusal
+not-formed c out w = unwritten c out 3 (rw w) (λ z. omega arith)
+
+pub no-room : (c : Condition) (out : List ℕ) → wellFormed c ≡ true → length out < 512 → WritePromise c out (record { refusal = 10; length = 0 }) out
+unfolding writeRefusal
+no-room c out w h = unwritten c out 10 (rw (w, lt-ltb (length out) 512 h)) (λ z. omega arith)
+
+pub written : (c : Condition) (out left : List ℕ) → Sized c → wellFormed c ≡ true → 512 ≤ length out → left ≡ blockOf c ++ drop 512 out
+    → WritePromise c out (record { refusal = 0; length = 512 }) left
+unfolding writeAnswer writeOut writeRefusal
+written c out left z w h e =
+    record {
+      answer = rw (w, le-ltb (length out) 512 h);
+      buffer = rw (w, le-ltb (length out) 512 h) e;
+      back = λ n. ap (λ (l : List ℕ). readAnswer (take 512 l)) e ∙ ap readAnswer (take-at (blockOf c) (drop 512 out) 512 (length-block c z)) ∙ reread c z w;
+    }
+
+-- Any two answers that a promise allows are equal --------------------------------------------------------------------------
+
+pub one-reading : (b : List ℕ) (r s : Outcome) → ReadPromise b r → ReadPromise b s → r ≡ s
+one-reading b r s p q = p .answer ∙ sym (q .answer)
+
+pub one-writing : (c : Condition) (out : List ℕ) (r s : Written) (x y : List ℕ) → WritePromise c out r x → WritePromise c out s y → (r ≡ s) × (x ≡ y)
+one-writing c out r s x y p q = (p .answer ∙ sym (q .answer), p .buffer ∙ sym (q .buffer))

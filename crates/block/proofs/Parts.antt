@@ -1,0 +1,51 @@
+-- Parts of a row of bytes, laid one after the other and copied out again.
+use Prim.Native.Nat.{ℕ, _+_, _-_, _≤_}
+use mathlib.Core.Path.{_≡_, refl, ap, sym, _∙_}
+use mathlib.Core.List.{List, [], _∷_, _++_, append-assoc, append-nil}
+use native.Mathlib.Omega.{arith}
+use lib.ListN.{length, take, drop, replicate, length-append, length-drop, length-replicate, drop-of-length-le}
+use lib.Seq.{take-at, drop-at, take-all, length-take-le}
+use Rattle.row.specs.Row.{laid}
+
+-- as many bytes as there is room for
+pub filled : (q d : List ℕ) (n : ℕ) → length q ≡ n → length d ≡ n → laid q d ≡ q
+unfolding laid
+filled q d n hq hd =
+    let a : length q ≤ length d = omega arith in
+    let b : length d ≤ length q = omega arith in
+    rw (take-all (length d) q a, drop-of-length-le d b) (append-nil q)
+
+-- a part, copied to a place of its own
+pub copied : (s : List ℕ) (at n : ℕ) → at + n ≤ length s → laid (take n (drop at s)) (replicate n 0) ≡ take n (drop at s)
+copied s at n h = filled (take n (drop at s)) (replicate n 0) n (length-take-le n (drop at s) (simp length-drop (omega arith))) (length-replicate n 0)
+
+-- the next part q, laid behind p
+pub next : (l p t q x : List ℕ) (a n : ℕ) → l ≡ p ++ t → length p ≡ a → length q ≡ n → n ≤ length t → x ≡ laid q (take n (drop a l))
+    → take a l ++ (x ++ drop n (drop a l)) ≡ (p ++ q) ++ drop n t
+next l p t q x a n e hp hq h ex =
+    let d : drop a l ≡ t = rw e (drop-at p t a hp) in
+    let f : x ≡ q = ex ∙ filled q (take n (drop a l)) n hq (rw d (length-take-le n t h)) in
+    rw (f, d, e, take-at p t a hp) (sym (append-assoc p q (drop n t)))
+
+-- four parts that fill 200 bytes
+pub four-parts : (s p q u w x y z v : List ℕ) → length s ≡ 200 → length p ≡ 24 → length q ≡ 40 → length u ≡ 40 → length w ≡ 96
+    → (s₁ s₂ s₃ s₄ : List ℕ) → x ≡ laid p (take 24 s) → s₁ ≡ x ++ drop 24 s
+    → y ≡ laid q (take 40 (drop 24 s₁)) → s₂ ≡ take 24 s₁ ++ (y ++ drop 40 (drop 24 s₁))
+    → z ≡ laid u (take 40 (drop 64 s₂)) → s₃ ≡ take 64 s₂ ++ (z ++ drop 40 (drop 64 s₂))
+    → v ≡ laid w (take 96 (drop 104 s₃)) → s₄ ≡ take 104 s₃ ++ (v ++ drop 96 (drop 104 s₃))
+    → s₄ ≡ p ++ (q ++ (u ++ w))
+four-parts s p q u w x y z v hs hp hq hu hw s₁ s₂ s₃ s₄ ex e₁ ey e₂ ez e₃ ev e₄ =
+    let t₁ : List ℕ = drop 24 s in
+    let t₂ : List ℕ = drop 40 t₁ in
+    let t₃ : List ℕ = drop 40 t₂ in
+    let l₁ : length t₁ ≡ 176 = simp length-drop (omega arith) in
+    let l₂ : length t₂ ≡ 136 = simp length-drop (omega arith) in
+    let l₃ : length t₃ ≡ 96 = simp length-drop (omega arith) in
+    let lq : length (p ++ q) ≡ 64 = length-append p q ∙ (omega arith) in
+    let lu : length ((p ++ q) ++ u) ≡ 104 = length-append (p ++ q) u ∙ (omega arith) in
+    let f₁ : s₁ ≡ p ++ t₁ = e₁ ∙ next s [] s p x 0 24 refl refl hp (omega arith) ex in
+    let f₂ : s₂ ≡ (p ++ q) ++ t₂ = e₂ ∙ next s₁ p t₁ q y 24 40 f₁ hp hq (omega arith) ey in
+    let f₃ : s₃ ≡ ((p ++ q) ++ u) ++ t₃ = e₃ ∙ next s₂ (p ++ q) t₂ u z 64 40 f₂ lq hu (omega arith) ez in
+    let f₄ : s₄ ≡ (((p ++ q) ++ u) ++ w) ++ drop 96 t₃ = e₄ ∙ next s₃ ((p ++ q) ++ u) t₃ w v 104 96 f₃ lu hw (omega arith) ev in
+    let none : length t₃ ≤ 96 = omega arith in
+    f₄ ∙ rw (drop-of-length-le t₃ none) (append-nil (((p ++ q) ++ u) ++ w) ∙ simp append-assoc)

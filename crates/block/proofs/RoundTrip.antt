@@ -1,0 +1,103 @@
+-- Writing and reading go back and forth.
+use Prim.Native.Nat.{ℕ, _+_, _/_, _%_}
+use mathlib.Core.Path.{_≡_, refl, ap, sym, _∙_}
+use mathlib.Core.Bool.{Bool, true, false, cond, not, _&&_}
+use mathlib.Core.List.{List, [], _∷_, _++_}
+use native.Mathlib.Omega.{arith}
+use lib.Dec.{eqb}
+use lib.ListN.{length, getD, length-append}
+use lib.Seq.{getD-at, append-snoc}
+use borrow.Author.Tests.{eqb-true, eq-eqb}
+use Rattle.condition.specs.declared.Condition.{Condition}
+use Rattle.condition.specs.declared.Outcome.{Outcome}
+use Rattle.condition.specs.Condition.{numbersGood, scrollGood, allUpTo, usersGood, pendingGood, escapeGood, wellFormed, powerUp}
+use Rattle.block.specs.Layout.{headOf, packedOf, conditionIn}
+use Rattle.block.specs.Block.{checkOf, bodyOf, sealOf, blockOf}
+use Rattle.block.specs.Reading.{sameBytes, intact, sound, readRefusal, refusedOf, readAnswer}
+use Rattle.condition.proofs.Good.{Sized}
+use Rattle.block.proofs.PackedBack.{back-with}
+use Rattle.block.proofs.Sealing.{length-body, length-block, check-body}
+use Rattle.block.proofs.Tidying.{same-eq, same-refl, block-parts}
+
+-- What is written reads back the same --------------------------------------------------------------------------------------
+
+pub condition-back : (c : Condition) → Sized c → conditionIn (blockOf c) ≡ c
+condition-back c z = ap conditionIn (block-parts c) ∙ back-with c _ z
+
+started : (c : Condition) → (eqb (getD (blockOf c) 0 0) 0x56 && eqb (getD (blockOf c) 1 0) 0x4B && eqb (getD (blockOf c) 2 0) 0x01 && true && true) ≡ true
+unfolding blockOf sealOf bodyOf packedOf headOf
+started c = refl
+
+pub intact-back : (c : Condition) → Sized c → intact (blockOf c) ≡ true
+unfolding intact blockOf sealOf
+intact-back c z =
+    let k : ℕ = checkOf (bodyOf c) in
+    let same : checkOf (blockOf c) ≡ k = check-body (bodyOf c) (k % 256 ∷ k / 256 ∷ []) (length-body c z) in
+    let low : getD (blockOf c) 510 0 ≡ k % 256 = getD-at (bodyOf c) (k % 256) (k / 256 ∷ []) 0 510 (length-body c z) in
+    let long : length (bodyOf c ++ (k % 256 ∷ [])) ≡ 511 = length-append (bodyOf c) _ ∙ ap (λ (n : ℕ). n + 1) (length-body c z) in
+    let high : getD (blockOf c) 511 0 ≡ k / 256 =
+    ap (λ (l : List ℕ). getD l 511 0) (sym (append-snoc (bodyOf c) (k % 256) (k / 256 ∷ []))) ∙ getD-at (bodyOf c ++ (k % 256 ∷ [])) (k / 256) [] 0 511 long in
+    rw (same, low, high, eq-eqb (k % 256) (k % 256) refl, eq-eqb (k / 256) (k / 256) refl) (started c)
+
+-- what a well-formed condition is written as is accepted, and is read as that condition
+pub reread : (c : Condition) → Sized c → wellFormed c ≡ true → readAnswer (blockOf c) ≡ record { refusal = 0; condition = c }
+unfolding readAnswer readRefusal sound
+reread c z w = rw (eq-eqb _ _ (length-block c z), intact-back c z, condition-back c z, w, same-refl (blockOf c))
+
+-- What is accepted is written back the same --------------------------------------------------------------------------------
+
+-- an accepted block
+pub record Accepted (b : List ℕ) : Type 0 where
+  pub long : length b ≡ 512
+  pub whole : intact b ≡ true
+  pub formed : wellFormed (conditionIn b) ≡ true
+  pub same : blockOf (conditionIn b) ≡ b
+  pub answer : readAnswer b ≡ record { refusal = 0; condition = conditionIn b }
+
+answered : (b : List ℕ) → readRefusal b ≡ 0 → readAnswer b ≡ record { refusal = 0; condition = conditionIn b }
+unfolding readAnswer
+answered b e = rw (eq-eqb _ _ e)
+
+pub accepted : (b : List ℕ) → readRefusal b ≡ 0 → Accepted b
+unfolding readRefusal sound
+accepted b e = go (eqb (length b) 512) refl (intact b) refl (wellFormed (conditionIn b)) refl (sameBytes (blockOf (conditionIn b)) b) refl e
+  where
+    go : (p : Bool) → eqb (length b) 512 ≡ p → (q : Bool) → intact b ≡ q → (r : Bool) → wellFormed (conditionIn b) ≡ r
+        → (s : Bool) → sameBytes (blockOf (conditionIn b)) b ≡ s
+        → _≡_ {A = ℕ} (cond (not p) 1 (cond (not q) 2 (cond (not (r && s)) 3 0))) 0 → Accepted b
+    go true ep true eq true er true es f =
+        record { long = eqb-true (length b) 512 ep; whole = eq; formed = er; same = same-eq (blockOf (conditionIn b)) b es; answer = answered b e }
+    go true ep true eq true er false es f = absurd (let z : _≡_ {A = ℕ} 3 0 = f in omega arith)
+    go true ep true eq false er s es f = absurd (let z : _≡_ {A = ℕ} 3 0 = f in omega arith)
+    go true ep false eq r er s es f = absurd (let z : _≡_ {A = ℕ} 2 0 = f in omega arith)
+    go false ep q eq r er s es f = absurd (let z : _≡_ {A = ℕ} 1 0 = f in omega arith)
+
+-- the refusal of the answer
+pub refusal-of : (b : List ℕ) → readAnswer b .refusal ≡ readRefusal b
+unfolding readAnswer
+refusal-of b = go (eqb (readRefusal b) 0) refl
+  where
+    go : (t : Bool) → eqb (readRefusal b) 0 ≡ t → cond t (record { refusal = 0; condition = conditionIn b }) (refusedOf (readRefusal b)) .refusal ≡ readRefusal b
+    go true h = sym (eqb-true _ _ h)
+    go false h = refl
+
+pub rewritten : (b : List ℕ) → readAnswer b .refusal ≡ 0 → blockOf (readAnswer b .condition) ≡ b
+rewritten b e =
+    let a = accepted b (sym (refusal-of b) ∙ e) in
+    ap (λ (r : Outcome). blockOf (r .condition)) (a .answer) ∙ a .same
+
+pub read-length : (b : List ℕ) → readAnswer b .refusal ≡ 0 → length b ≡ 512
+read-length b e = accepted b (sym (refusal-of b) ∙ e) .long
+
+-- power-up for font 0 is well formed, so every reading is
+fresh-formed : wellFormed (powerUp 0) ≡ true
+unfolding wellFormed powerUp numbersGood scrollGood allUpTo usersGood pendingGood escapeGood
+fresh-formed = refl
+
+pub read-formed : (b : List ℕ) → wellFormed (readAnswer b .condition) ≡ true
+unfolding readAnswer
+read-formed b = go (eqb (readRefusal b) 0) refl
+  where
+    go : (t : Bool) → eqb (readRefusal b) 0 ≡ t → wellFormed (cond t (record { refusal = 0; condition = conditionIn b }) (refusedOf (readRefusal b)) .condition) ≡ true
+    go true h = accepted b (eqb-true _ _ h) .formed
+    go false h = fresh-formed

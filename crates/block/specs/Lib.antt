@@ -1,0 +1,5 @@
+pub mod Layout
+pub mod Block
+pub mod Reading
+pub mod Writing
+pub mod Tidy
