@@ -1,0 +1,112 @@
+-- What each way through a run comes to.
+use Prim.Native.Nat.{ℕ, _+_, _*_, _≤_, _<_}
+use mathlib.Core.Path.{_≡_, refl, ap, sym, _∙_}
+use mathlib.Core.Bool.{Bool, true, false, cond, not, _&&_}
+use mathlib.Core.List.{List, _++_}
+use native.Mathlib.Omega.{arith}
+use lib.Dec.{eqb, ltb, leb}
+use lib.ListN.{length, getD}
+use borrow.Author.Tests.{eq-eqb, ne-eqb, lt-ltb, le-ltb, leb-true}
+use Rattle.condition.specs.declared.Condition.{Condition}
+use Rattle.condition.specs.Condition.{wellFormed}
+use Rattle.condition.specs.Bytes.{runOf}
+use Rattle.condition.specs.Busy.{busyOf, flickerlessOf}
+use Rattle.condition.proofs.Good.{Sized}
+use Rattle.condition.proofs.Places.{both}
+use Rattle.condition.proofs.Kept.{run-kept}
+use Rattle.condition.proofs.Pieces.{busy-most, flickerless-most}
+use Rattle.block.specs.Layout.{packedOf, conditionIn}
+use Rattle.block.proofs.PackedBack.{packed-back}
+use Rattle.interpreter.specs.declared.Tally.{Tally}
+use Rattle.interpreter.specs.declared.Ran.{Ran}
+use Rattle.interpreter.specs.InPlace.{Carried}
+use Rattle.interpreter.specs.Run.{limit, withinLimit, tallied, runRefusal, refusedOf, runAnswer, RunPromise}
+
+-- each number of a tally within its limit
+pub record Within (t : Tally) : Type 0 where
+  pub bytes : t .bytes ≤ 4000000000
+  pub busy : t .busy ≤ 4000000000
+  pub flickerless : t .flickerless ≤ 4000000000
+
+pub within : (t : Tally) → withinLimit t ≡ true → Within t
+unfolding withinLimit
+within t e =
+    let p = both (leb (t .bytes) limit && leb (t .busy) limit) (leb (t .flickerless) limit) e in
+    let q = both (leb (t .bytes) limit) (leb (t .busy) limit) (p .0) in
+    record {
+      bytes = leb-true (t .bytes) limit (q .0);
+      busy = leb-true (t .busy) limit (q .1);
+      flickerless = leb-true (t .flickerless) limit (p .1);
+    }
+
+-- refused, by its number
+not-run : (c : Condition) (t : Tally) (bs : List ℕ) (r : Ran) (n : ℕ) → r ≡ refusedOf n c t → runRefusal c t bs ≡ n → (n ≡ 0 → ⊥)
+    → RunPromise c t bs r
+unfolding runAnswer
+not-run c t bs r n e f h =
+    record { answer = e ∙ sym (rw (f, ne-eqb n 0 h)); kept = λ z. absurd (h (sym (ap (λ (r : Ran). r .refusal) e) ∙ z)) }
+
+and-false : (a : Bool) → (a && false) ≡ false
+and-false true = refl
+and-false false = refl
+
+module _ (c : Condition) (t : Tally) (bs : List ℕ) (r : Ran) where
+  pub not-formed : wellFormed c ≡ false → r ≡ refusedOf 3 c t → RunPromise c t bs r
+  unfolding runRefusal
+  not-formed w e = not-run c t bs r 3 e (rw w) (λ z. omega arith)
+
+  pub above-limit : withinLimit t ≡ false → r ≡ refusedOf 3 c t → RunPromise c t bs r
+  unfolding runRefusal
+  above-limit l e = not-run c t bs r 3 e (rw (l, and-false)) (λ z. omega arith)
+
+  module _ (w : wellFormed c ≡ true) (l : withinLimit t ≡ true) where
+    pub too-long : 32768 < length bs → r ≡ refusedOf 4 c t → RunPromise c t bs r
+    unfolding runRefusal
+    too-long h e = not-run c t bs r 4 e (rw (w, l, lt-ltb 32768 (length bs) h)) (λ z. omega arith)
+
+    module _ (h : length bs ≤ 32768) where
+      pub passes-limit : withinLimit (tallied t c bs) ≡ false → r ≡ refusedOf 5 c t → RunPromise c t bs r
+      unfolding runRefusal
+      passes-limit m e = not-run c t bs r 5 e (rw (w, l, le-ltb 32768 (length bs) h, m)) (λ z. omega arith)
+
+      pub accepted : withinLimit (tallied t c bs) ≡ true → Sized c → ((i : ℕ) → getD bs i 0 < 256)
+          → r ≡ record { refusal = 0; condition = runOf c bs; tally = tallied t c bs } → RunPromise c t bs r
+      unfolding runAnswer runRefusal
+      accepted m s b e =
+          record {
+            answer = e ∙ sym (rw (w, l, le-ltb 32768 (length bs) h, m));
+            kept = λ z. ap (λ (r : Ran). wellFormed (r .condition)) e ∙ run-kept c bs s b w;
+          }
+
+-- what a run adds is small
+pub adds : (c k : Condition) (bs : List ℕ) (busy flickerless : ℕ) → Carried c bs k busy flickerless → length bs ≤ 32768
+    → (busy ≤ 2129920) × (flickerless ≤ 32768)
+adds c k bs busy flickerless g h =
+    (omega (arith, g .takes, busy-most c bs), omega (arith, g .flickers, flickerless-most c bs))
+
+-- the tally, brought up to date
+pub tallies : (t : Tally) (c k : Condition) (bs : List ℕ) (busy flickerless : ℕ) → Carried c bs k busy flickerless
+    → record { bytes = t .bytes + length bs; busy = t .busy + busy; flickerless = t .flickerless + flickerless } ≡ tallied t c bs
+unfolding tallied
+tallies t c k bs busy flickerless g = rw (g .takes, g .flickers)
+
+pub ran : (t : Tally) (c k : Condition) (bs : List ℕ) (busy flickerless : ℕ) → Carried c bs k busy flickerless
+    → _≡_ {A = Ran}
+    (record {
+      refusal = 0;
+      condition = k;
+      tally = record { bytes = t .bytes + length bs; busy = t .busy + busy; flickerless = t .flickerless + flickerless };
+    })
+    (record { refusal = 0; condition = runOf c bs; tally = tallied t c bs })
+ran t c k bs busy flickerless g = rw (g .leaves, tallies t c k bs busy flickerless g)
+
+-- any two answers that a promise allows are equal
+pub one-run : (c : Condition) (t : Tally) (bs : List ℕ) (r s : Ran) → RunPromise c t bs r → RunPromise c t bs s → r ≡ s
+one-run c t bs r s p q = p .answer ∙ sym (q .answer)
+
+-- a run on the packed condition
+pub carries : (c : Condition) (p after : List ℕ) (k : Condition) (bs : List ℕ) (busy flickerless : ℕ) → Sized c → p ≡ packedOf c
+    → k ≡ conditionIn after → Carried (conditionIn p) bs (conditionIn after) busy flickerless → Carried c bs k busy flickerless
+carries c p after k bs busy flickerless s e f g =
+    let h : conditionIn p ≡ c = ap conditionIn e ∙ packed-back c s in
+    rw f (rw h at g)

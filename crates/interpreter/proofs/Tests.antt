@@ -1,0 +1,45 @@
+-- What the code's tests tell of the definitions' tests.
+use Prim.Native.Nat.{ℕ, zero, suc, _+_, _-_, _%_, _≤_, _<_}
+use mathlib.Core.Path.{_≡_, refl, ap, sym, _∙_}
+use mathlib.Core.Bool.{Bool, true, false, _||_}
+use native.Mathlib.Omega.{arith}
+use lib.Dec.{eqb, ltb, leb}
+use Rattle.condition.specs.declared.Pending.the-variants.{UserData}
+use Rattle.block.specs.Layout.{pendingOf}
+use borrow.Author.Tests.{lt-ltb, le-ltb, le-leb, lt-leb, eq-eqb, ne-eqb, ltb-true, ltb-false}
+
+-- what turns a test into its answer: `search tests`
+pub ruleset tests = (lt-ltb, le-ltb, le-leb, lt-leb, eq-eqb, ne-eqb)
+
+-- of the places 0 to 39, column 19 are 19 and 39
+pub at-19 : (x : ℕ) → x ≡ 19 → false ≡ ltb (x % 20) 19
+at-19 x h = rw h
+
+pub short-of-19 : (x : ℕ) → x < 40 → (x ≡ 19 → ⊥) → ltb x 39 ≡ ltb (x % 20) 19
+short-of-19 x h k = go (ltb x 39) refl
+  where
+    go : (t : Bool) → ltb x 39 ≡ t → t ≡ ltb (x % 20) 19
+    go true e = sym (lt-ltb (x % 20) 19 (omega (arith, k, ltb-true x 39 e)))
+    go false e = sym (le-ltb (x % 20) 19 (omega (arith, ltb-false x 39 e)))
+
+-- a column that is not below 19 is 19
+pub edge-column : (x : ℕ) → ltb (x % 20) 19 ≡ false → eqb (x % 20) 19 ≡ true
+edge-column x e = eq-eqb (x % 20) 19 (omega (arith, ltb-false (x % 20) 19 e))
+
+pub inner-column : (x : ℕ) → ltb (x % 20) 19 ≡ true → eqb (x % 20) 19 ≡ false
+inner-column x e = ne-eqb (x % 20) 19 (λ q. omega (arith, ltb-true (x % 20) 19 e))
+
+-- either test
+pub or-true : (a : Bool) → a || true ≡ true
+or-true true = refl
+or-true false = refl
+
+pub or-false : (a : Bool) → a || false ≡ a
+or-false true = refl
+or-false false = refl
+
+-- a kind that is none of 0 to 5 awaits user data
+pub awaits-data : (k code n : ℕ) → 0 < k → (k ≡ 1 → ⊥) → (k ≡ 2 → ⊥) → (k ≡ 3 → ⊥) → (k ≡ 4 → ⊥) → (k ≡ 5 → ⊥)
+    → pendingOf k code n ≡ UserData code n
+awaits-data k code n h h1 h2 h3 h4 h5 =
+    rw (ne-eqb k 0 (λ q. omega arith), ne-eqb k 1 h1, ne-eqb k 2 h2, ne-eqb k 3 h3, ne-eqb k 4 h4, ne-eqb k 5 h5)

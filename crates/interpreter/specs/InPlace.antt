@@ -1,0 +1,79 @@
+-- What the parts of a command make of a condition, for the functions that work in place.
+use Prim.Native.Nat.{ℕ, _≤_, _<_, _*_}
+use mathlib.Core.Path.{_≡_}
+use mathlib.Core.List.{List, [], _∷_}
+use mathlib.Core.Bool.{Bool, true, false}
+use lib.ListN.{getD, take, drop, set, replicate}
+use lib.Dec.{eqb}
+use Rattle.row.specs.Row.{lineStart, shifted}
+use Rattle.users.specs.declared.Users.{Users}
+use Rattle.users.specs.Users.{defineOf, usersIn}
+use Rattle.condition.specs.declared.Condition.{Condition}
+use Rattle.condition.specs.declared.Pending.the-variants.{Nothing}
+use Rattle.condition.specs.Set.{withCells, withUsers, withHeld}
+use Rattle.condition.specs.Bytes.{stepOf, runOf}
+use Rattle.condition.specs.Busy.{figureOf, busyOf, flickerlessOf}
+use Rattle.block.specs.Layout.{pendingOf}
+
+-- the cursor's line shifts left one, and the code b comes to its column 19
+abbrev pub shiftOf : Condition → ℕ → Condition
+shiftOf c b = withCells c (shifted (lineStart (c .cursor)) b (c .codes)) (shifted (lineStart (c .cursor)) (c .font) (c .fonts))
+
+-- every cell is 20h in a font
+abbrev pub blankOf : Condition → ℕ → Condition
+blankOf c f = withCells c (replicate 40 0x20) (replicate 40 f)
+
+-- the bytes of the user characters
+abbrev pub withUserBytes : Condition → List ℕ → Condition
+withUserBytes c x = withUsers c (usersIn x (c .users .count))
+
+-- how many user characters there are
+abbrev pub withCount : Condition → ℕ → Condition
+withCount c n = withUsers c (usersIn (c .users .bytes) n)
+
+-- the bytes held, with the fifth, are a user character
+abbrev pub definedIn : Condition → ℕ → ℕ → Condition
+definedIn c code last = withUsers c (defineOf (c .users) code (c .held) last)
+
+-- the byte d is held at the place n
+abbrev pub heldIn : Condition → ℕ → ℕ → Condition
+heldIn c n d = withHeld c (set (c .held) n d)
+
+abbrev pub releasedIn : Condition → Condition
+releasedIn c = withHeld c (replicate 4 0)
+
+-- bytes 3 to 20 at power-up for a font
+abbrev pub freshHead : ℕ → List ℕ
+freshHead f = 0 ∷ 1 ∷ 0 ∷ 0 ∷ f ∷ f ∷ 0 ∷ 3 ∷ 0x14 ∷ 0 ∷ 0 ∷ 0 ∷ 0 ∷ 0 ∷ 0 ∷ 0 ∷ 0 ∷ 0 ∷ []
+
+-- every field but the cells and the bytes of the user characters, as at power-up for a font
+abbrev pub resetIn : Condition → ℕ → Condition
+resetIn c f =
+    record {
+      codes = c .codes;
+      fonts = c .fonts;
+      cursor = 0;
+      mode = 1;
+      scrolling = false;
+      shown = false;
+      font = f;
+      link = f;
+      euro = false;
+      luminance = 3;
+      speed = 0x14;
+      flickerless = false;
+      users = usersIn (c .users .bytes) 0;
+      pending = Nothing;
+      held = replicate 4 0;
+    }
+
+-- a byte carried out: the condition after it, and its busy figure
+pub record Stepped (c : Condition) (b : ℕ) (after : Condition) (figure : ℕ) : Type 0 where
+  pub leaves : after ≡ stepOf c b
+  pub takes : figure ≡ figureOf c b
+
+-- bytes carried out in turn: the condition after them, their busy time and how many came while flickerless was on
+pub record Carried (c : Condition) (bs : List ℕ) (after : Condition) (busy flickerless : ℕ) : Type 0 where
+  pub leaves : after ≡ runOf c bs
+  pub takes : busy ≡ busyOf c bs
+  pub flickers : flickerless ≡ flickerlessOf c bs

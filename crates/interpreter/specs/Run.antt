@@ -1,0 +1,55 @@
+-- A run and the tally (document 01, Busy time and the tally; Refusal numbers and their order).
+use Prim.Native.Nat.{ℕ, _+_}
+use mathlib.Core.Path.{_≡_}
+use mathlib.Core.List.{List}
+use mathlib.Core.Bool.{Bool, true, false, cond, not, _&&_}
+use lib.ListN.{length}
+use lib.Dec.{eqb, ltb, leb}
+use Rattle.condition.specs.declared.Condition.{Condition}
+use Rattle.condition.specs.Condition.{wellFormed}
+use Rattle.condition.specs.Bytes.{runOf}
+use Rattle.condition.specs.Busy.{busyOf, flickerlessOf}
+use Rattle.interpreter.specs.declared.Tally.{Tally}
+use Rattle.interpreter.specs.declared.Ran.{Ran}
+
+-- Each is at most 4,000,000,000
+abbrev pub limit : ℕ
+limit = 4000000000
+
+unfoldable pub withinLimit : Tally → Bool
+withinLimit t = leb (t .bytes) limit && leb (t .busy) limit && leb (t .flickerless) limit
+
+-- A run adds to three numbers: bytes, busy, and bytes received while flickerless was already on
+unfoldable pub tallied : Tally → Condition → List ℕ → Tally
+tallied t c bs =
+    record {
+      bytes = t .bytes + length bs;
+      busy = t .busy + busyOf c bs;
+      flickerless = t .flickerless + flickerlessOf c bs;
+    }
+
+-- 3: condition not well formed, tally above its limit. 4: more than 32,768 bytes in a run. 5: a tally number would pass its limit
+unfoldable pub runRefusal : Condition → Tally → List ℕ → ℕ
+runRefusal c t bs =
+    cond (not (wellFormed c && withinLimit t)) 3
+    (cond (ltb 32768 (length bs)) 4
+    (cond (not (withinLimit (tallied t c bs))) 5 0))
+
+-- a refused run returns the condition it got, and nothing lent changes
+abbrev pub refusedOf : ℕ → Condition → Tally → Ran
+refusedOf n c t = record { refusal = n; condition = c; tally = t }
+
+unfoldable pub runAnswer : Condition → Tally → List ℕ → Ran
+runAnswer c t bs =
+    cond (eqb (runRefusal c t bs) 0) (record { refusal = 0; condition = runOf c bs; tally = tallied t c bs })
+    (refusedOf (runRefusal c t bs) c t)
+
+-- The answer r of a run. An accepted run leaves a well-formed condition.
+pub record RunPromise (c : Condition) (t : Tally) (bs : List ℕ) (r : Ran) : Type 0 where
+  pub answer : r ≡ runAnswer c t bs
+  pub kept : r .refusal ≡ 0 → wellFormed (r .condition) ≡ true
+
+-- The same with the tally lent: after the run it holds the answer's.
+pub record LentPromise (c : Condition) (t : Tally) (bs : List ℕ) (r : Ran) (after : Tally) : Type 0 where
+  pub ran : RunPromise c t bs r
+  pub stored : after ≡ r .tally
