@@ -1,0 +1,172 @@
+-- The moves are the interpreter's: in mode 1, nothing half received and no user character on the byte, what a byte of a move does
+-- (crates/condition/specs/Bytes) is to bring the cursor to where the move leads.
+use mathlib.Core.Path.{_≡_, refl, sym, ap, _∙_}
+use mathlib.Core.Logic.{_⊎_, ⊎-elim}
+use mathlib.Core.Bool.{Bool, true, false, cond, _&&_, _||_, not, or-assoc, or-false}
+use mathlib.Core.List.{List, [], _∷_}
+use Prim.Native.Nat.{ℕ, _+_, _-_, _%_, _≤_, _<_}
+use native.Mathlib.Omega.{arith}
+use lib.Dec.{eqb, ltb, leb}
+use borrow.Author.Tests.{eqb-true, eqb-false, eq-eqb, ne-eqb, ltb-true, ltb-false, leb-true, le-leb}
+use Rattle.row.specs.Row.{lineStart}
+use Rattle.users.specs.Users.{isUser}
+use Rattle.condition.specs.declared.Condition.{Condition}
+use Rattle.condition.specs.declared.Pending.{Pending}
+use Rattle.condition.specs.declared.Pending.the-variants.{Nothing, Escape, Position, Luminance, Speed, UserCode, UserData}
+use Rattle.condition.specs.Condition.{idle, column, wellFormed, scrollGood}
+use Rattle.condition.specs.Set.{withCursor, withCell, withScrolling, withPending, goTo}
+use Rattle.condition.specs.Bytes.{leftOf, rightOf, downOf, homeOf, returnOf, writeOf, isChar, controlOf, escapeOf, positionOf, stepAt, stepOf, runOf}
+use Rattle.condition.specs.Steps.{isMove}
+use Rattle.condition.proofs.Good.{good}
+use Rattle.condition.proofs.Kept.{scroll-off}
+use Rattle.moves.specs.Moves.{any, left, next, down, moves, move}
+use Rattle.moves.specs.Ways.{Half, none, escape, place, leadsTo}
+use Rattle.moves.proofs.Lists.{bool, clash, and-left, and-right}
+use Rattle.moves.proofs.Moving.{each-move, move-below}
+
+-- a condition from which moves start
+pub record Ready (c : Condition) : Type 0 where
+  pub one : c .mode ≡ 1
+  pub still : c .scrolling ≡ false
+  pub inside : c .cursor < 40
+  pub whole : c .pending ≡ Nothing
+
+pub idle-is : (p : Pending) → idle p ≡ true → p ≡ Nothing
+idle-is Nothing e = refl
+idle-is Escape e = clash e refl
+idle-is Position e = clash e refl
+idle-is Luminance e = clash e refl
+idle-is Speed e = clash e refl
+idle-is UserCode e = clash e refl
+idle-is (UserData code n) e = clash e refl
+
+-- a well-formed condition in mode 1 with nothing half received is one
+pub ready : (c : Condition) → wellFormed c ≡ true → c .mode ≡ 1 → idle (c .pending) ≡ true → Ready c
+ready c w m p =
+    record {
+      one = m;
+      still = scroll-off c (good c w) (rw (ne-eqb (c .mode) 3 (λ e. omega arith)));
+      inside = good c w .cursor-40;
+      whole = idle-is (c .pending) p;
+    }
+
+-- one condition or another, by where the cursor goes
+place-by : (f : ℕ → Condition) (t : Bool) (x y : ℕ) → cond t (f x) (f y) ≡ f (cond t x y)
+place-by f true x y = refl
+place-by f false x y = refl
+
+-- where scroll-on is off, ending it changes nothing
+go-is : (c : Condition) (x : ℕ) → c .scrolling ≡ false → goTo c x ≡ withCursor c x
+go-is c x e = λ i. withScrolling (withCursor c x) (sym e i)
+
+next-is : (p : ℕ) → p < 40 → cond (ltb (p % 20) 19) (p + 1) (cond (eqb p 19) 20 0) ≡ next p
+unfolding next
+next-is p h =
+    ⊎-elim (λ (e : ltb (p % 20) 19 ≡ true). rw (e, ne-eqb p 39 (λ z. omega (arith, ltb-true (p % 20) 19 e))))
+    (λ (e : ltb (p % 20) 19 ≡ false).
+    ⊎-elim (λ (z : eqb p 19 ≡ true). rw (e, z, eqb-true p 19 z))
+    (λ (z : eqb p 19 ≡ false). rw (e, z, eq-eqb p 39 (omega (arith, ltb-false (p % 20) 19 e, eqb-false p 19 z))))
+    (bool (eqb p 19)))
+    (bool (ltb (p % 20) 19))
+
+pub right-is : (c : Condition) → c .mode ≡ 1 → c .cursor < 40 → rightOf c ≡ withCursor c (next (c .cursor))
+unfolding rightOf
+right-is c m h =
+    rw (ne-eqb (c .mode) 3 (λ e. omega arith), eq-eqb (c .mode) 1 m)
+    (rw (place-by (withCursor c) (eqb (c .cursor) 19) 20 0)
+    (place-by (withCursor c) (ltb (c .cursor % 20) 19) (c .cursor + 1) (cond (eqb (c .cursor) 19) 20 0) ∙ ap (withCursor c) (next-is (c .cursor) h)))
+
+left-is : (c : Condition) → c .scrolling ≡ false → leftOf c ≡ withCursor c (left (c .cursor))
+unfolding leftOf left
+left-is c e = place-by (goTo c) (eqb (c .cursor % 20) 0) (c .cursor) (c .cursor - 1) ∙ go-is c _ e
+
+down-is : (c : Condition) → c .mode ≡ 1 → c .scrolling ≡ false → downOf c ≡ withCursor c (down (c .cursor))
+unfolding downOf down
+down-is c m e = rw (eq-eqb (c .mode) 1 m) (place-by (goTo c) (ltb (c .cursor) 20) (c .cursor + 20) (c .cursor - 20) ∙ go-is c _ e)
+
+start-is : (c : Condition) → c .scrolling ≡ false → returnOf c ≡ withCursor c (lineStart (c .cursor))
+unfolding returnOf
+start-is c e = go-is c (lineStart (c .cursor)) e
+
+module _ (c : Condition) (r : Ready c) where
+  -- a byte that is no character is a control
+  control : (b : ℕ) → isUser (c .users) b ≡ false → leb 0x20 b ≡ false → stepOf c b ≡ controlOf c b
+  unfolding stepAt isChar
+  control b u l = rw (r .whole, u, l)
+
+  -- a one-byte move
+  pub moves-to : (m : ℕ) → any (eqb m) moves ≡ true → isUser (c .users) m ≡ false → stepOf c m ≡ withCursor c (move m (c .cursor))
+  unfolding move controlOf
+  moves-to =
+      each-move (λ m. isUser (c .users) m ≡ false → stepOf c m ≡ withCursor c (move m (c .cursor)))
+      (λ u. control 0x08 u refl ∙ left-is c (r .still))
+      (λ u. control 0x09 u refl ∙ right-is c (r .one) (r .inside))
+      (λ u. control 0x0A u refl ∙ down-is c (r .one) (r .still))
+      (λ u. control 0x0C u refl ∙ go-is c 0 (r .still))
+      (λ u. control 0x0D u refl ∙ start-is c (r .still))
+
+  -- 1Bh
+  pub escapes : isUser (c .users) 0x1B ≡ false → stepOf c 0x1B ≡ withPending c Escape
+  unfolding controlOf
+  escapes u = control 0x1B u refl
+
+  -- a character write
+  pub writes : (b : ℕ) → isChar c b ≡ true → stepOf c b ≡ withCursor (withCell c (c .cursor) b) (next (c .cursor))
+  unfolding stepAt writeOf
+  writes b e =
+      ap (λ (p : Pending). stepAt p c b) (r .whole)
+      ∙ rw (e, ne-eqb (c .mode) 3 (λ z. omega (arith, r .one))) (right-is (withCell c (c .cursor) b) (r .one) (r .inside))
+
+-- 1Bh 48h p, the cursor at p
+pub placed : (c : Condition) (p : ℕ) → c .scrolling ≡ false → p < 40 → stepOf (withPending c Position) p ≡ withCursor (withPending c Nothing) p
+unfolding stepAt positionOf
+placed c p e h = rw (le-leb p 0x27 (omega arith)) (go-is (withPending c Nothing) p e)
+
+-- Whole strings of moves -----------------------------------------------------------------------------------------------------
+
+abbrev pub half : Half → Pending
+half none = Nothing
+half escape = Escape
+half place = Position
+
+-- c after a part of 1Bh 48h p, with the cursor at a
+abbrev partly : Condition → Half → ℕ → Condition
+partly c k a = withPending (withCursor c a) (half k)
+
+partly-ready : (c : Condition) (a : ℕ) → Ready c → a < 40 → Ready (partly c none a)
+partly-ready c a r h = record { one = r .one; still = r .still; inside = h; whole = refl }
+
+-- a string of moves that leads from a to b brings the cursor there, and changes nothing else
+pub leads-there : (c : Condition) → Ready c → ((m : ℕ) → any (eqb m) moves ≡ true → isUser (c .users) m ≡ false) → isUser (c .users) 0x1B ≡ false
+    → (bs : List ℕ) (k : Half) (a b : ℕ) → a < 40 → leadsTo k a b bs ≡ true → runOf (partly c k a) bs ≡ partly c none b
+unfolding runOf leadsTo escapeOf stepAt
+leads-there c r free free27 [] none a b h l = ap (partly c none) (eqb-true a b l)
+leads-there c r free free27 [] escape a b h l = clash l refl
+leads-there c r free free27 [] place a b h l = clash l refl
+leads-there c r free free27 (x ∷ xs) none a b h l =
+    ⊎-elim
+    (λ (e : eqb x 0x1B ≡ true). ap (λ (d : Condition). runOf d xs) (ap (stepOf (partly c none a)) (eqb-true x 0x1B e) ∙ escapes (partly c none a) (partly-ready c a r h) free27)
+    ∙ leads-there c r free free27 xs escape a b h (rw e at l))
+    (λ (e : eqb x 0x1B ≡ false). let o = rw e at l in
+    let i : any (eqb x) moves ≡ true = and-left (any (eqb x) moves) _ o in
+    ap (λ (d : Condition). runOf d xs) (moves-to (partly c none a) (partly-ready c a r h) x i (free x i))
+    ∙ leads-there c r free free27 xs none (move x a) b (move-below x a h) (and-right (any (eqb x) moves) _ o))
+    (bool (eqb x 0x1B))
+leads-there c r free free27 (x ∷ xs) escape a b h l =
+    ap (λ (d : Condition). runOf d xs) (ap (stepOf (partly c escape a)) (eqb-true x 0x48 (and-left (eqb x 0x48) _ l)))
+    ∙ leads-there c r free free27 xs place a b h (and-right (eqb x 0x48) _ l)
+leads-there c r free free27 (x ∷ xs) place a b h l =
+    let z : x < 40 = (let k = leb-true x 0x27 (and-left (leb x 0x27) _ l) in omega arith) in
+    ap (λ (d : Condition). runOf d xs) (placed (withCursor c a) x (r .still) z)
+    ∙ leads-there c r free free27 xs none x b z (and-right (leb x 0x27) _ l)
+
+-- In the words of the condition's own definitions ----------------------------------------------------------------------------
+
+pub is-move : (b : ℕ) → isMove b ≡ any (eqb b) moves
+unfolding isMove
+is-move b = simp (or-assoc, or-false)
+
+-- a one-byte move of a well-formed condition in mode 1, nothing half received and no user character on the byte
+pub move-law : (c : Condition) (m : ℕ) → wellFormed c ≡ true → c .mode ≡ 1 → idle (c .pending) ≡ true → isUser (c .users) m ≡ false
+    → isMove m ≡ true → stepOf c m ≡ withCursor c (move m (c .cursor))
+move-law c m w one p u i = moves-to c (ready c w one p) m (sym (is-move m) ∙ i) u

@@ -1,0 +1,10 @@
+pub mod Lists
+pub mod Moving
+pub mod Rule
+pub mod Strings
+pub mod Putting
+pub mod Answers
+pub mod Interpreter
+pub mod Every
+pub mod Rows
+pub mod Steps

@@ -1,0 +1,55 @@
+-- Laws of tests over a list.
+use mathlib.Core.Path.{_≡_, refl, sym, ap, _∙_, subst}
+use mathlib.Core.Logic.{_⊎_, inl, inr, ⊎-elim}
+use mathlib.Core.Bool.{Bool, true, false, cond, _||_, _&&_, or-true}
+use mathlib.Core.List.{List, [], _∷_}
+use Prim.Native.Nat.{ℕ, suc}
+use native.Mathlib.Omega.{arith}
+use lib.Dec.{T, eqb}
+use borrow.Author.Tests.{eqb-true, eq-eqb}
+use Rattle.moves.specs.Moves.{any, find}
+
+pub bool : (b : Bool) → (b ≡ true) ⊎ (b ≡ false)
+bool true = inl refl
+bool false = inr refl
+
+pub clash : {A : Type 0} {b : Bool} → b ≡ true → b ≡ false → A
+clash p q = absurd (subst T (sym p ∙ q) tt)
+
+pub and-left : (a b : Bool) → (a && b) ≡ true → a ≡ true
+and-left true b e = refl
+and-left false b e = e
+
+pub and-right : (a b : Bool) → (a && b) ≡ true → b ≡ true
+and-right true b e = e
+and-right false b e = clash e refl
+
+-- a member that passes the test
+pub any-at : (f : ℕ → Bool) (xs : List ℕ) (b : ℕ) → any (eqb b) xs ≡ true → f b ≡ true → any f xs ≡ true
+any-at f [] b m h = m
+any-at f (x ∷ xs) b m h =
+    ⊎-elim (λ e. rw (sym (ap f (eqb-true b x e)) ∙ h))
+    (λ e. rw (any-at f xs b (rw e at m) h) (or-true (f x)))
+    (bool (eqb b x))
+
+-- the first that passes the test passes it, and is a member
+pub find-at : (f : ℕ → Bool) (xs : List ℕ) (d : ℕ) → any f xs ≡ true → f (find f xs d) ≡ true
+find-at f [] d h = clash h refl
+find-at f (x ∷ xs) d h =
+    ⊎-elim (λ e. rw e e)
+    (λ e. rw e (find-at f xs d (rw e at h)))
+    (bool (f x))
+
+pub find-in : (f : ℕ → Bool) (xs : List ℕ) (d : ℕ) → any f xs ≡ true → any (eqb (find f xs d)) xs ≡ true
+find-in f [] d h = h
+find-in f (x ∷ xs) d h =
+    ⊎-elim (λ e. rw e (ap (λ (t : Bool). t || any (eqb x) xs) (eq-eqb x x refl)))
+    (λ e. rw e (ap (λ (t : Bool). eqb (find f xs d) x || t) (find-in f xs d (rw e at h)) ∙ or-true (eqb (find f xs d) x)))
+    (bool (f x))
+
+pub find-none : (f : ℕ → Bool) (xs : List ℕ) (d : ℕ) → any f xs ≡ false → find f xs d ≡ d
+find-none f [] d h = refl
+find-none f (x ∷ xs) d h =
+    ⊎-elim (λ e. clash (ap (λ (t : Bool). t || any f xs) e) h)
+    (λ e. rw e (find-none f xs d (rw e at h)))
+    (bool (f x))

@@ -1,0 +1,42 @@
+use Rattle.planner.specs.Answer.{planRefusal}
+use borrow.Author.Needs.{needs}
+use Rattle.planner.proofs.refusal.Statement.{statement}
+use Rattle.planner.proofs.refusal.Tie as tie
+
+well-formed-requires : tie.Need-well-formed-requires
+well-formed-requires c κs = search needs
+
+is-idle-requires : tie.Need-is-idle-requires
+is-idle-requires c κs = search needs
+
+slice-aggregate-on-move : tie.Need-slice-aggregate-on-move
+slice-aggregate-on-move c = search needs
+
+on-move-requires : tie.Need-on-move-requires
+on-move-requires c κs = search needs
+
+slice-aggregate-some-lacks : tie.Need-slice-aggregate-some-lacks
+slice-aggregate-some-lacks c = search needs
+
+some-lacks-requires : tie.Need-some-lacks-requires
+some-lacks-requires c κs = search needs
+
+lowest-requires : tie.Need-lowest-requires
+lowest-requires c κs = search needs
+
+returns : tie.Need-returns
+unfolding planRefusal
+returns c = rw (c .lowest .ensures, c .before .some-lacks .ensures, c .before .before .before .on-move .ensures, c .before .before .before .before .before .is-idle .ensures, c .before .before .before .before .before .before .well-formed .ensures)
+
+pub refusal-spec : {M : Type 1} → statement M
+refusal-spec =
+    tie.close
+    (tie.spec
+    well-formed-requires
+    is-idle-requires
+    slice-aggregate-on-move
+    on-move-requires
+    slice-aggregate-some-lacks
+    some-lacks-requires
+    lowest-requires
+    returns)
