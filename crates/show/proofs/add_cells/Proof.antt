@@ -1,0 +1,58 @@
+use mathlib.Core.Path.{sym}
+use lib.ListN.{length-take, length-drop}
+use lib.Seq.{length-take-le}
+use Rattle.condition.proofs.Places.{tail-part}
+use native.Mathlib.Omega.{arith}
+use Rattle.show.proofs.Laws.{both-added}
+use Rattle.show.specs.Report.{cellLines}
+use borrow.Author.Needs.{needs}
+use Rattle.show.proofs.add_cells.Statement.{statement}
+use Rattle.show.proofs.add_cells.Tie as tie
+use Rattle.show.proofs.add_cells.Reads as reads
+use Rattle.show.proofs.add_cells.Lts as lts
+use Rattle.show.proofs.add_codes.Reads as add-codes-reads
+
+slice-aggregate-add-codes : tie.Need-slice-aggregate-add-codes
+slice-aggregate-add-codes c = sym (length-take-le 20 (c .before .before .before .before .args .codes .now) (search needs))
+
+add-codes-requires : tie.Need-add-codes-requires
+add-codes-requires c κs = omega (arith, length-take 20 (c .before .before .before .before .args .codes .now))
+
+sub-add-codes : tie.Need-sub-add-codes
+sub-add-codes c = search needs
+
+part-add-codes-start : tie.Need-part-add-codes-start
+part-add-codes-start c = search needs
+
+part-add-codes-end : tie.Need-part-add-codes-end
+part-add-codes-end c = search needs
+
+add-codes-requires-2 : tie.Need-add-codes-requires-2
+add-codes-requires-2 c κs =
+    let s = c .before .before .before .before .before .before .before .before .before .args .codes .now in
+    let a = c .before .before .before .before .add-codes .ensures .1 in
+    rw (tail-part s 20) (omega (arith, a, length-take 20 s, length-drop 20 s))
+
+same-length : tie.Need-same-length
+same-length c = search needs
+
+returns : tie.Need-returns
+unfolding cellLines
+returns c =
+    let s = c .before .before .before .before .before .before .before .before .before .before .before .before .args .codes .now in
+    let a = c .before .before .before .before .before .before .before .add-codes .ensures in
+    let b = rw (tail-part s 20) at (c .before .before .add-codes2 .ensures) in
+    (both-added (a .0) (b .0), omega (arith, a .1, b .1, length-take 20 s, length-drop 20 s))
+
+pub add-cells-spec : {M : Type 1} → statement M
+add-cells-spec =
+    tie.close
+    (tie.spec
+    slice-aggregate-add-codes
+    add-codes-requires
+    sub-add-codes
+    part-add-codes-start
+    part-add-codes-end
+    add-codes-requires-2
+    same-length
+    returns)

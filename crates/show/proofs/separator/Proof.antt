@@ -1,0 +1,21 @@
+use Rattle.show.specs.Report.{separatorOf}
+use borrow.Author.Tests.{eq-eqb, ne-eqb}
+use borrow.Author.Needs.{needs}
+use Rattle.show.proofs.separator.Statement.{statement}
+use Rattle.show.proofs.separator.Tie as tie
+use Rattle.show.proofs.separator.Reads as reads
+use Rattle.show.proofs.separator.Lts as lts
+
+sub-if1 : tie.Need-sub-if1
+sub-if1 c = search needs
+
+returns : tie.Need-returns
+unfolding separatorOf
+returns c = rw (eq-eqb _ _ (c .if1 .taken))
+
+returns-2 : tie.Need-returns-2
+unfolding separatorOf
+returns-2 c = rw (ne-eqb _ _ (c .if1 .left))
+
+pub separator-spec : {M : Type 1} → statement M
+separator-spec = tie.close (tie.spec sub-if1 returns returns-2)
