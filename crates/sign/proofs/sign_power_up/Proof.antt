@@ -1,0 +1,43 @@
+use Rattle.sign.proofs.Hosted.{power-up-refused, power-up-written}
+use borrow.Author.Tests.{eq-eqb, ne-eqb}
+use borrow.Author.Needs.{needs}
+use Rattle.sign.proofs.sign_power_up.Statement.{statement}
+use Rattle.sign.proofs.sign_power_up.Tie as tie
+use Rattle.sign.proofs.sign_power_up.Reads as reads
+use Rattle.sign.proofs.sign_power_up.Lts as lts
+use Rattle.block.proofs.write.Reads as write-reads
+use Rattle.condition.proofs.Condition.power_up.Reads as power-up-reads
+use Rattle.sign.proofs.wide.Reads as wide-reads
+
+power-up-requires : tie.Need-power-up-requires
+power-up-requires c κs = search needs
+
+wide-requires : tie.Need-wide-requires
+wide-requires c κs = search needs
+
+returns : tie.Need-returns
+returns c = rw (c .wide .ensures) (power-up-refused _ _ _ (c .before .before .before .power-up .ensures) (c .before .if1 .taken))
+
+write-requires : tie.Need-write-requires
+write-requires c κs = search needs
+
+wide-requires-2 : tie.Need-wide-requires-2
+wide-requires-2 c κs = search needs
+
+same-length : tie.Need-same-length
+same-length c = search needs
+
+returns-2 : tie.Need-returns-2
+returns-2 c = rw (c .wide2 .ensures) (power-up-written _ _ _ _ _ (c .before .before .before .before .before .before .before .before .power-up .ensures) (c .before .before .before .before .before .before .if1 .left) (c .before .before .before .write .ensures))
+
+pub sign-power-up-spec : {M : Type 1} → statement M
+sign-power-up-spec =
+    tie.close
+    (tie.spec
+    power-up-requires
+    wide-requires
+    returns
+    write-requires
+    wide-requires-2
+    same-length
+    returns-2)

@@ -1,0 +1,24 @@
+use Rattle.sign.specs.Host.{tallyAt}
+use borrow.Author.Needs.{needs}
+use Rattle.sign.proofs.tally_at.Statement.{statement}
+use Rattle.sign.proofs.tally_at.Tie as tie
+use Rattle.sign.proofs.tally_at.Reads as reads
+use Rattle.sign.proofs.tally_at.Lts as lts
+use Rattle.sign.proofs.number_at.Reads as number-at-reads
+
+number-at-requires : tie.Need-number-at-requires
+number-at-requires c κs = search needs
+
+number-at-requires-2 : tie.Need-number-at-requires-2
+number-at-requires-2 c κs = search needs
+
+number-at-requires-3 : tie.Need-number-at-requires-3
+number-at-requires-3 c κs = search needs
+
+returns : tie.Need-returns
+unfolding tallyAt
+returns c = rw (c .number-at3 .ensures, c .before .number-at2 .ensures, c .before .before .number-at .ensures)
+
+pub tally-at-spec : {M : Type 1} → statement M
+tally-at-spec =
+    tie.close (tie.spec number-at-requires number-at-requires-2 number-at-requires-3 returns)

@@ -1,0 +1,97 @@
+-- What the C host program's calls answer and leave (document 01, Refusal numbers and their order): the same as reading the block, running
+-- or planning, and writing back.
+use Prim.Native.Nat.{ℕ, _+_, _*_, _%_, _/_}
+use mathlib.Core.Path.{_≡_}
+use mathlib.Core.Bool.{Bool, true, false, cond, not}
+use mathlib.Core.List.{List, [], _∷_, _++_}
+use lib.ListN.{length, getD, drop}
+use lib.Dec.{eqb, ltb, leb}
+use Rattle.condition.specs.declared.Condition.{Condition}
+use Rattle.condition.specs.Condition.{powerUp}
+use Rattle.block.specs.Layout.{conditionIn}
+use Rattle.block.specs.Block.{blockOf}
+use Rattle.block.specs.Reading.{readRefusal}
+use Rattle.interpreter.specs.declared.Tally.{Tally}
+use Rattle.interpreter.specs.declared.Ran.{Ran}
+use Rattle.interpreter.specs.Run.{runAnswer}
+use Rattle.planner.specs.declared.Planned.{Planned}
+use Rattle.planner.specs.Answer.{planAnswer, planOut}
+
+-- The tally as four-byte numbers, low byte first -------------------------------------------------------------------------
+
+abbrev pub numberAt : List ℕ → ℕ → ℕ
+numberAt s at = getD s at 0 + getD s (at + 1) 0 * 256 + getD s (at + 2) 0 * 65536 + getD s (at + 3) 0 * 16777216
+
+abbrev pub fourBytes : ℕ → List ℕ
+fourBytes n = n / 1 % 256 ∷ n / 256 % 256 ∷ n / 65536 % 256 ∷ n / 16777216 % 256 ∷ []
+
+unfoldable pub tallyAt : List ℕ → Tally
+tallyAt s = record { bytes = numberAt s 0; busy = numberAt s 4; flickerless = numberAt s 8 }
+
+unfoldable pub tallyBytes : Tally → List ℕ
+tallyBytes t = fourBytes (t .bytes) ++ (fourBytes (t .busy) ++ fourBytes (t .flickerless))
+
+-- Run ---------------------------------------------------------------------------------------------------------------------
+
+-- the run on what stands in the block and in the tally
+abbrev pub ranOf : List ℕ → List ℕ → List ℕ → Ran
+ranOf b t bs = runAnswer (conditionIn b) (tallyAt t) bs
+
+-- 1: a block not 512 bytes or a host tally not 12; 2 and 3: as reading the block; 3, 4, 5: as the run
+unfoldable pub hostRunRefusal : List ℕ → List ℕ → List ℕ → ℕ
+hostRunRefusal b t bs =
+    cond (not (eqb (length t) 12)) 1
+    (cond (not (eqb (readRefusal b) 0)) (readRefusal b)
+    (ranOf b t bs .refusal))
+
+-- run changes the block and the tally together, or neither
+unfoldable pub blockAfter : List ℕ → List ℕ → List ℕ → List ℕ
+blockAfter b t bs = cond (eqb (hostRunRefusal b t bs) 0) (blockOf (ranOf b t bs .condition)) b
+
+unfoldable pub tallyAfter : List ℕ → List ℕ → List ℕ → List ℕ
+tallyAfter b t bs = cond (eqb (hostRunRefusal b t bs) 0) (tallyBytes (ranOf b t bs .tally)) t
+
+-- The answer r of a run, and the block and tally that it leaves. What is written back is accepted again.
+pub record HostRun (b t bs : List ℕ) (r : ℕ) (b′ t′ : List ℕ) : Type 0 where
+  pub answer : r ≡ hostRunRefusal b t bs
+  pub block : b′ ≡ blockAfter b t bs
+  pub tally : t′ ≡ tallyAfter b t bs
+  pub again : r ≡ 0 → readRefusal b′ ≡ 0
+
+-- Plan --------------------------------------------------------------------------------------------------------------------
+
+-- 1: a block not 512 bytes or wanted codes not 40; 2 and 3: as reading the block; 3, 6 to 10: as the plan
+unfoldable pub hostPlanRefusal : List ℕ → List ℕ → ℕ → List ℕ → ℕ
+hostPlanRefusal b codes cursor out =
+    cond (not (eqb (length codes) 40)) 1
+    (cond (not (eqb (readRefusal b) 0)) (readRefusal b)
+    (planAnswer (conditionIn b) codes cursor out .refusal))
+
+-- plan answers its length, or 256 plus the refusal
+unfoldable pub hostPlanAnswer : List ℕ → List ℕ → ℕ → List ℕ → ℕ
+hostPlanAnswer b codes cursor out =
+    cond (eqb (hostPlanRefusal b codes cursor out) 0)
+    (planAnswer (conditionIn b) codes cursor out .length)
+    (256 + hostPlanRefusal b codes cursor out)
+
+-- what the plan leaves in the buffer (a refused one leaves it as it was); nothing changes where the codes or the block are refused
+unfoldable pub hostPlanOut : List ℕ → List ℕ → ℕ → List ℕ → List ℕ
+hostPlanOut b codes cursor out =
+    cond (not (eqb (length codes) 40)) out (cond (not (eqb (readRefusal b) 0)) out (planOut (conditionIn b) codes cursor out))
+
+pub record HostPlan (b codes : List ℕ) (cursor : ℕ) (out : List ℕ) (r : ℕ) (left : List ℕ) : Type 0 where
+  pub answer : r ≡ hostPlanAnswer b codes cursor out
+  pub buffer : left ≡ hostPlanOut b codes cursor out
+
+-- Power-up ----------------------------------------------------------------------------------------------------------------
+
+-- 3: font link above 1. 10: output under 512 bytes for a block
+unfoldable pub hostPowerUpRefusal : ℕ → List ℕ → ℕ
+hostPowerUpRefusal font out = cond (not (leb font 1)) 3 (cond (ltb (length out) 512) 10 0)
+
+unfoldable pub hostPowerUpOut : ℕ → List ℕ → List ℕ
+hostPowerUpOut font out = cond (eqb (hostPowerUpRefusal font out) 0) (blockOf (powerUp font) ++ drop 512 out) out
+
+pub record HostPowerUp (font : ℕ) (out : List ℕ) (r : ℕ) (left : List ℕ) : Type 0 where
+  pub answer : r ≡ hostPowerUpRefusal font out
+  pub buffer : left ≡ hostPowerUpOut font out

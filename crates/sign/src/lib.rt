@@ -1,0 +1,146 @@
+// The C host program's entry points: numbers and byte slices only.
+ghost use mathlib.Core.Path.{_≡_};
+ghost use Prim.Native.Nat.{_+_, _*_, _/_, _%_, _≤_, _<_};
+ghost use lib.ListN.{length};
+ghost use Rattle.sign.specs.Host.{numberAt, fourBytes, tallyAt, tallyBytes, HostRun, HostPlan, HostPowerUp};
+use condition::Condition;
+use interpreter::Tally;
+
+fn wide(x: u8) -> u32
+    ensures { λ r. ⌜ r ≡ x ⌝ }
+{
+    x as u32
+}
+
+fn join(a: u8, b: u8, c: u8, d: u8) -> u32
+    ensures { λ r. ⌜ r ≡ a + b * 256 + c * 65536 + d * 16777216 ⌝ }
+{
+    (a as u32) + (b as u32) * 256 + (c as u32) * 65536 + (d as u32) * 16777216
+}
+
+// Four bytes, low byte first.
+fn number_at(s: &[u8], at: usize) -> u32
+    requires { ⌜ at + 4 ≤ length (now s) ⌝ }
+    ensures { λ r. ⌜ r ≡ numberAt (now (s .entry)) at ⌝ }
+{
+    join(s[at], s[at + 1], s[at + 2], s[at + 3])
+}
+
+fn tally_at(s: &[u8]) -> Tally
+    requires { ⌜ length (now s) ≡ 12 ⌝ }
+    ensures { λ r. ⌜ r ≡ tallyAt (now (s .entry)) ⌝ }
+{
+    Tally {
+        bytes: number_at(s, 0),
+        busy: number_at(s, 4),
+        flickerless: number_at(s, 8),
+    }
+}
+
+// The byte of a number that stands for so many ones.
+fn byte_of(n: u32, ones: u32) -> u8
+    requires { ⌜ 0 < ones ⌝ }
+    ensures { λ r. ⌜ r ≡ n / ones % 256 ⌝ }
+{
+    (n / ones % 256) as u8
+}
+
+fn four_bytes(n: u32) -> [u8; 4]
+    ensures { λ r. ⌜ r ≡ fourBytes n ⌝ }
+{
+    [
+        byte_of(n, 1),
+        byte_of(n, 256),
+        byte_of(n, 65536),
+        byte_of(n, 16777216),
+    ]
+}
+
+fn tally_bytes(t: Tally) -> [u8; 12]
+    ensures { λ r. ⌜ r ≡ tallyBytes t ⌝ }
+{
+    let a = four_bytes(t.bytes);
+    let b = four_bytes(t.busy);
+    let c = four_bytes(t.flickerless);
+    [
+        a[0],
+        a[1],
+        a[2],
+        a[3],
+        b[0],
+        b[1],
+        b[2],
+        b[3],
+        c[0],
+        c[1],
+        c[2],
+        c[3],
+    ]
+}
+
+// Runs bytes on the block and the tally that are lent; answers 0 or the refusal.
+#[no_mangle]
+pub extern "C" fn sign_run(block: &mut [u8], tally: &mut [u8], bytes: &[u8]) -> u32
+    ensures { λ r. ⌜ HostRun (now (block .entry)) (now (tally .entry)) (now (bytes .entry)) r (now (block .exit)) (now (tally .exit)) ⌝ }
+{
+    if tally.len() != 12 {
+        return 1;
+    }
+    let got = block::read(block);
+    if got.refusal != 0 {
+        return wide(got.refusal);
+    }
+    let t = tally_at(tally);
+    let c = got.condition;
+    let ran = interpreter::run(c, t, bytes);
+    if ran.refusal != 0 {
+        return wide(ran.refusal);
+    }
+    let next = ran.condition;
+    let written = block::sealed(next);
+    row::copy(block, &written);
+    let after = ran.tally;
+    let numbers = tally_bytes(after);
+    row::copy(tally, &numbers);
+    0
+}
+
+fn refused(n: u8) -> u32
+    ensures { λ r. ⌜ r ≡ 256 + n ⌝ }
+{
+    256 + (n as u32)
+}
+
+// Plans on the block that is lent; answers the plan's length, or 256 plus the refusal.
+#[no_mangle]
+pub extern "C" fn sign_plan(block: &[u8], codes: &[u8], cursor: u32, out: &mut [u8]) -> u32
+    ensures { λ r. ⌜ HostPlan (now (block .entry)) (now (codes .entry)) cursor (now (out .entry)) r (now (out .exit)) ⌝ }
+{
+    if codes.len() != 40 {
+        return refused(1);
+    }
+    let got = block::read(block);
+    if got.refusal != 0 {
+        return refused(got.refusal);
+    }
+    let c = got.condition;
+    let p = planner::plan(c, codes, cursor, out);
+    if p.refusal != 0 {
+        return refused(p.refusal);
+    }
+    wide(p.length)
+}
+
+// Writes the power-up block for a default font; answers 0 or the refusal.
+#[no_mangle]
+pub extern "C" fn sign_power_up(font: u32, block: &mut [u8]) -> u32
+    ensures { λ r. ⌜ HostPowerUp font (now (block .entry)) r (now (block .exit)) ⌝ }
+{
+    let start = Condition::power_up(font);
+    if start.refusal != 0 {
+        return wide(start.refusal);
+    }
+    let c = start.condition;
+    let written = block::write(c, block);
+    wide(written.refusal)
+}
