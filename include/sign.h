@@ -1,4 +1,4 @@
-/* sign.h: a 20x2 VFD sign (Noritake CU20029-KTW220A) for a C host. Link with libsign.a; see examples/host.c.
+/* sign.h: a 20x2 VFD sign (module CU20029-KTW220A) for a C host. Link with libsign.a; see examples/host.c.
 
    The sign is a block of 512 bytes that the host keeps and lends. sign_power_up makes one, sign_run does
    to it what the module does with bytes that are sent to it, and sign_plan works out the fewest bytes

@@ -1,5 +1,5 @@
 #!/bin/sh
-# Builds and runs one test: tests/run.sh self | show | host | plans | alike | c-host | example
+# Builds and runs one test: tests/run.sh self | show | host | plans | alike | c-host | example | dump
 # or the measure: tests/run.sh speed. See tests/README.md.
 set -eu
 cd "$(dirname "$0")/.."
@@ -84,6 +84,11 @@ example)
     cat "$out/example.txt"
     diff examples/host.txt "$out/example.txt"
     ;;
+dump)
+    c_program dump tests/dump.c
+    $RUN "$out/dump" >"$out/dump.txt"
+    sed -n '/^```dump/,/^```$/p' docs/HOST.md | sed '1d;$d' | diff - "$out/dump.txt"
+    ;;
 speed)
     linked speed
     $RUN "$out/speed" check
@@ -96,7 +101,7 @@ speed)
     done
     ;;
 *)
-    echo "usage: tests/run.sh self | show | host | plans | alike | c-host | example | speed" >&2
+    echo "usage: tests/run.sh self | show | host | plans | alike | c-host | example | dump | speed" >&2
     exit 2
     ;;
 esac

@@ -60,25 +60,37 @@ impl Host {
                 hex(bytes)
             )
         };
-        self.report.expect(got == expected, || format!("{}: answer {} and should be {}", call(), got, expected));
+        self.report.expect(got == expected, || {
+            format!("{}: answer {} and should be {}", call(), got, expected)
+        });
         self.report.expect(b.bytes() == &block_after[..], || {
             format!("{}: block, {}", call(), first_difference(&block_after, b.bytes()))
         });
         self.report.expect(t.bytes() == &tally_after[..], || {
-            format!("{}: tally {} and should be {}", call(), hex(t.bytes()), hex(&tally_after))
+            format!(
+                "{}: tally {} and should be {}",
+                call(),
+                hex(t.bytes()),
+                hex(&tally_after)
+            )
         });
-        self.report.expect(b.guarded() && t.guarded() && s.untouched(), || format!("{}: wrote outside", call()));
+        self.report.expect(b.guarded() && t.guarded() && s.untouched(), || {
+            format!("{}: wrote outside", call())
+        });
         if got != 0 {
-            self.report.expect(b.untouched() && t.untouched(), || format!("{}: refused, and changed something", call()));
+            self.report.expect(b.untouched() && t.untouched(), || {
+                format!("{}: refused, and changed something", call())
+            });
             return None;
         }
         // an accepted run's block and tally are accepted again, and no bytes change nothing
         let mut again = b.bytes().to_vec();
         let mut again_tally = t.bytes().to_vec();
         let answer = sign::run(&mut again, &mut again_tally, &[]);
-        self.report.expect(answer == 0 && again == b.bytes() && again_tally == t.bytes(), || {
-            format!("{}: its block is answered {} afterwards", call(), answer)
-        });
+        self.report
+            .expect(answer == 0 && again == b.bytes() && again_tally == t.bytes(), || {
+                format!("{}: its block is answered {} afterwards", call(), answer)
+            });
         Some((b.bytes().to_vec(), t.bytes().to_vec()))
     }
 
@@ -103,13 +115,19 @@ impl Host {
                 room
             )
         };
-        self.report.expect(got == expected, || format!("{}: answer {} and should be {}", call(), got, expected));
+        self.report.expect(got == expected, || {
+            format!("{}: answer {} and should be {}", call(), got, expected)
+        });
         self.report.expect(o.bytes() == &out_after[..], || {
             format!("{}: plan {} and should be {}", call(), hex(o.bytes()), hex(&out_after))
         });
-        self.report.expect(b.untouched() && k.untouched() && o.guarded(), || format!("{}: wrote outside", call()));
+        self.report.expect(b.untouched() && k.untouched() && o.guarded(), || {
+            format!("{}: wrote outside", call())
+        });
         if got >= 256 {
-            self.report.expect(o.untouched(), || format!("{}: refused, and wrote to the buffer", call()));
+            self.report.expect(o.untouched(), || {
+                format!("{}: refused, and wrote to the buffer", call())
+            });
         }
     }
 
@@ -122,7 +140,9 @@ impl Host {
         self.report.cases += 1;
         self.power_ups[expected as usize] += 1;
         let call = || format!("sign_power_up, font {}, room {}", font, room);
-        self.report.expect(got == expected, || format!("{}: answer {} and should be {}", call(), got, expected));
+        self.report.expect(got == expected, || {
+            format!("{}: answer {} and should be {}", call(), got, expected)
+        });
         self.report.expect(b.bytes() == &after[..] && b.guarded(), || {
             format!("{}: {}", call(), first_difference(&after, b.bytes()))
         });
@@ -133,7 +153,13 @@ const ZERO: [u8; TALLY] = [0; TALLY];
 const LIMIT32: u32 = LIMIT as u32;
 
 fn tally(bytes: u32, busy: u32, flickerless: u32) -> Vec<u8> {
-    Tally { bytes: bytes as u64, busy: busy as u64, flickerless: flickerless as u64 }.to_bytes().to_vec()
+    Tally {
+        bytes: bytes as u64,
+        busy: busy as u64,
+        flickerless: flickerless as u64,
+    }
+    .to_bytes()
+    .to_vec()
 }
 
 /// A condition with nearly every field away from its power-up value.
@@ -153,10 +179,17 @@ fn rich() -> Condition {
     c.speed = 200;
     c.flickerless = true;
     for i in 0..15 {
-        c.users[i] = User { code: i as u8 * 17, dots: [i as u8, 255, 128, 1, i as u8] };
+        c.users[i] = User {
+            code: i as u8 * 17,
+            dots: [i as u8, 255, 128, 1, i as u8],
+        };
     }
     c.count = 15;
-    c.half = Half::UserData { code: 0x1B, count: 3, held: [9, 8, 7, 0] };
+    c.half = Half::UserData {
+        code: 0x1B,
+        count: 3,
+        held: [9, 8, 7, 0],
+    };
     c
 }
 
@@ -324,7 +357,16 @@ fn wrong_lengths(h: &mut Host) {
             }
         }
     }
-    for n in [LONGEST_RUN - 1, LONGEST_RUN, LONGEST_RUN + 1, LONGEST_RUN + 2, 65_535, 65_536, 65_537, 100_000] {
+    for n in [
+        LONGEST_RUN - 1,
+        LONGEST_RUN,
+        LONGEST_RUN + 1,
+        LONGEST_RUN + 2,
+        65_535,
+        65_536,
+        65_537,
+        100_000,
+    ] {
         for block in [Condition::power_up(0).to_block(), rich().to_block()] {
             let bytes = inputs::mixed(n);
             h.run(&block, &ZERO, &bytes);
@@ -370,11 +412,23 @@ fn tallies(h: &mut Host) {
 /// Any condition, any bytes, with now and then something wrong.
 fn random_runs(h: &mut Host, cases: usize) {
     for i in 0..cases {
-        let c = if i % 2 == 0 { any_condition(&mut h.rng) } else { reached_condition(&mut h.rng) };
+        let c = if i % 2 == 0 {
+            any_condition(&mut h.rng)
+        } else {
+            reached_condition(&mut h.rng)
+        };
         let mut block = c.to_block().to_vec();
-        let length = if i % 500 == 0 { 32_700 + h.rng.below(70) } else { h.rng.below(80) };
+        let length = if i % 500 == 0 {
+            32_700 + h.rng.below(70)
+        } else {
+            h.rng.below(80)
+        };
         let bytes = some_bytes(&mut h.rng, length);
-        let mut t = tally(h.rng.below(1_000_000) as u32, h.rng.below(1_000_000) as u32, h.rng.below(1_000_000) as u32);
+        let mut t = tally(
+            h.rng.below(1_000_000) as u32,
+            h.rng.below(1_000_000) as u32,
+            h.rng.below(1_000_000) as u32,
+        );
         if h.rng.once_in(10) {
             let edge = LIMIT32 - h.rng.below(500) as u32;
             t = tally(edge, LIMIT32 - h.rng.below(2_000) as u32, edge);
@@ -415,7 +469,11 @@ fn damage(block: &mut [u8], rng: &mut Rng) {
 
 fn random_plans(h: &mut Host, cases: usize) {
     for i in 0..cases {
-        let mut c = if i % 2 == 0 { any_condition(&mut h.rng) } else { reached_condition(&mut h.rng) };
+        let mut c = if i % 2 == 0 {
+            any_condition(&mut h.rng)
+        } else {
+            reached_condition(&mut h.rng)
+        };
         if !h.rng.once_in(6) {
             c.mode = 1;
             c.scroll_on = false;
@@ -436,7 +494,11 @@ fn random_plans(h: &mut Host, cases: usize) {
         let mut codes = c.codes.to_vec();
         for _ in 0..h.rng.below(45) {
             let p = h.rng.below(CELLS);
-            codes[p] = if h.rng.once_in(3) { h.rng.byte() } else { 0x41 + h.rng.below(3) as u8 };
+            codes[p] = if h.rng.once_in(3) {
+                h.rng.byte()
+            } else {
+                0x41 + h.rng.below(3) as u8
+            };
         }
         if !h.rng.once_in(6) {
             for x in codes.iter_mut() {
@@ -457,11 +519,27 @@ fn random_plans(h: &mut Host, cases: usize) {
             block.resize(n, 0);
         }
         let cursor = match h.rng.below(12) {
-            0 => h.rng.pick(&[40, 41, 59, 127, 255, 256, 256 + 5, 65_536, 65_536 + 39, 1 << 31, u32::MAX]),
+            0 => h.rng.pick(&[
+                40,
+                41,
+                59,
+                127,
+                255,
+                256,
+                256 + 5,
+                65_536,
+                65_536 + 39,
+                1 << 31,
+                u32::MAX,
+            ]),
             1 => h.rng.next() as u32,
             _ => place(&mut h.rng) as u32,
         };
-        let room = if h.rng.once_in(8) { h.rng.below(44) } else { 44 + h.rng.below(30) };
+        let room = if h.rng.once_in(8) {
+            h.rng.below(44)
+        } else {
+            44 + h.rng.below(30)
+        };
         h.plan(&block, &codes, cursor, room);
     }
 }
@@ -469,7 +547,11 @@ fn random_plans(h: &mut Host, cases: usize) {
 /// The same bytes in one run or in several end alike.
 fn pieces(h: &mut Host, cases: usize) {
     for i in 0..cases {
-        let c = if i % 2 == 0 { any_condition(&mut h.rng) } else { Condition::power_up(0) };
+        let c = if i % 2 == 0 {
+            any_condition(&mut h.rng)
+        } else {
+            Condition::power_up(0)
+        };
         let length = h.rng.below(200);
         let bytes = some_bytes(&mut h.rng, length);
         let block = c.to_block().to_vec();
@@ -484,7 +566,8 @@ fn pieces(h: &mut Host, cases: usize) {
             };
             at = to;
         }
-        h.report.expect(whole == now, || format!("in pieces otherwise: {}", hex(&bytes)));
+        h.report
+            .expect(whole == now, || format!("in pieces otherwise: {}", hex(&bytes)));
     }
 }
 
@@ -539,25 +622,36 @@ fn giant_lengths(h: &mut Host) {
         giant[..BLOCK].copy_from_slice(&block);
         let a = sign::run(giant, &mut t, &[0x41]);
         let b = sign::plan(giant, &[0x41; 40], 0, &mut out);
-        h.report.expect(a == 1 && b == 257, || format!("block of {} bytes: answers {} and {}", n, a, b));
-        h.report.expect(giant[..BLOCK] == block && t == ZERO && out == [0; 44], || "a giant block changed".to_string());
+        h.report.expect(a == 1 && b == 257, || {
+            format!("block of {} bytes: answers {} and {}", n, a, b)
+        });
+        h.report
+            .expect(giant[..BLOCK] == block && t == ZERO && out == [0; 44], || {
+                "a giant block changed".to_string()
+            });
         giant[..BLOCK].fill(0);
 
         let a = sign::run(&mut small, giant, &[0x41]);
         let b = sign::run(&mut small, &mut t, giant);
-        h.report.expect(a == 1 && b == 4, || format!("tally or run of {} bytes: answers {} and {}", n, a, b));
+        h.report.expect(a == 1 && b == 4, || {
+            format!("tally or run of {} bytes: answers {} and {}", n, a, b)
+        });
         let a = sign::plan(&small, giant, 0, &mut out);
         h.report.expect(a == 257, || format!("{} codes: answer {}", n, a));
-        h.report.expect(small == block && t == ZERO && out == [0; 44], || "a refused call changed something".to_string());
+        h.report.expect(small == block && t == ZERO && out == [0; 44], || {
+            "a refused call changed something".to_string()
+        });
 
         let a = sign::plan(&small, &[0x41; 40], 39, giant);
-        h.report.expect(a == 43 && giant[..40] == [0x41; 40] && giant[43..1_000] == [0; 957], || {
-            format!("plan into {} bytes: answer {}", n, a)
-        });
+        h.report.expect(
+            a == 43 && giant[..40] == [0x41; 40] && giant[43..1_000] == [0; 957],
+            || format!("plan into {} bytes: answer {}", n, a),
+        );
         let a = sign::power_up(0, giant);
-        h.report.expect(a == 0 && giant[..BLOCK] == block && giant[BLOCK..1_000] == [0; 488], || {
-            format!("power-up into {} bytes: answer {}", n, a)
-        });
+        h.report.expect(
+            a == 0 && giant[..BLOCK] == block && giant[BLOCK..1_000] == [0; 488],
+            || format!("power-up into {} bytes: answer {}", n, a),
+        );
         h.report.cases += 7;
         unsafe { dealloc(p, layout) };
     }
@@ -576,9 +670,22 @@ fn main() {
     threads(&mut h);
     giant_lengths(&mut h);
     println!("host: runs by answer 0 to 5: {:?}", &h.runs[..6]);
-    println!("host: plans accepted {}, by refusal 1 to 10: {:?}", h.plans[0], &h.plans[1..]);
-    println!("host: power-ups by answer: {} accepted, {} refused 3, {} refused 10", h.power_ups[0], h.power_ups[3], h.power_ups[10]);
-    for (n, met) in [(1, h.runs[1]), (2, h.runs[2]), (3, h.runs[3]), (4, h.runs[4]), (5, h.runs[5])] {
+    println!(
+        "host: plans accepted {}, by refusal 1 to 10: {:?}",
+        h.plans[0],
+        &h.plans[1..]
+    );
+    println!(
+        "host: power-ups by answer: {} accepted, {} refused 3, {} refused 10",
+        h.power_ups[0], h.power_ups[3], h.power_ups[10]
+    );
+    for (n, met) in [
+        (1, h.runs[1]),
+        (2, h.runs[2]),
+        (3, h.runs[3]),
+        (4, h.runs[4]),
+        (5, h.runs[5]),
+    ] {
         h.report.expect(met > 0, || format!("no run was refused {}", n));
     }
     for n in [0, 1, 2, 3, 6, 7, 8, 9, 10] {

@@ -14,13 +14,18 @@ pub enum Flavour {
     Mixed,
 }
 
-pub const FLAVOURS: [Flavour; 5] =
-    [Flavour::Text, Flavour::ScrollUp, Flavour::ScrollLeft, Flavour::UserCharacters, Flavour::Mixed];
+pub const FLAVOURS: [Flavour; 5] = [
+    Flavour::Text,
+    Flavour::ScrollUp,
+    Flavour::ScrollLeft,
+    Flavour::UserCharacters,
+    Flavour::Mixed,
+];
 
 /// Codes that make good user characters: letters, a blank, ADh, and codes that are commands.
 const USER_POOL: [u8; 34] = [
-    0x20, 0x21, 0x41, 0x42, 0x43, 0x48, 0x49, 0x4C, 0x53, 0x54, 0xAD, 0xFF, 0x00, 0x01, 0x07, 0x08, 0x09, 0x0A,
-    0x0B, 0x0C, 0x0D, 0x0E, 0x0F, 0x10, 0x11, 0x12, 0x13, 0x15, 0x18, 0x19, 0x1A, 0x1C, 0x1F, 0x80,
+    0x20, 0x21, 0x41, 0x42, 0x43, 0x48, 0x49, 0x4C, 0x53, 0x54, 0xAD, 0xFF, 0x00, 0x01, 0x07, 0x08, 0x09, 0x0A, 0x0B,
+    0x0C, 0x0D, 0x0E, 0x0F, 0x10, 0x11, 0x12, 0x13, 0x15, 0x18, 0x19, 0x1A, 0x1C, 0x1F, 0x80,
 ];
 
 fn character(rng: &mut Rng) -> u8 {
@@ -58,7 +63,11 @@ fn user_definition(rng: &mut Rng, esc_too: bool, out: &mut Vec<u8>) {
     out.extend_from_slice(&[0x1B, 0x43, code]);
     for _ in 0..5 {
         // data bytes that would be commands, or users, if they were not data
-        let d = if rng.once_in(2) { rng.pick(&USER_POOL) } else { rng.byte() };
+        let d = if rng.once_in(2) {
+            rng.pick(&USER_POOL)
+        } else {
+            rng.byte()
+        };
         out.push(d);
     }
 }
@@ -167,7 +176,11 @@ pub fn any_condition(rng: &mut Rng) -> Condition {
     c.flickerless = rng.once_in(2);
     let users = rng.pick(&[0, 0, 1, 2, 5, 15, 16]);
     while c.count < users {
-        let code = if rng.once_in(2) { rng.pick(&USER_POOL) } else { rng.byte() };
+        let code = if rng.once_in(2) {
+            rng.pick(&USER_POOL)
+        } else {
+            rng.byte()
+        };
         if !c.is_user(code) && (code != 0x1B || rng.once_in(3)) {
             let mut dots = [0; 5];
             for d in dots.iter_mut() {

@@ -251,16 +251,27 @@ impl Condition {
                 6
             }
             Half::UserCode => {
-                self.half = Half::UserData { code: b, count: 0, held: [0; 4] };
+                self.half = Half::UserData {
+                    code: b,
+                    count: 0,
+                    held: [0; 4],
+                };
                 6
             }
             Half::UserData { code, count, mut held } => {
                 if count < 4 {
                     held[count] = b;
-                    self.half = Half::UserData { code, count: count + 1, held };
+                    self.half = Half::UserData {
+                        code,
+                        count: count + 1,
+                        held,
+                    };
                     6
                 } else {
-                    self.define(User { code, dots: [held[0], held[1], held[2], held[3], b & 0x0F] });
+                    self.define(User {
+                        code,
+                        dots: [held[0], held[1], held[2], held[3], b & 0x0F],
+                    });
                     15
                 }
             }
@@ -339,7 +350,11 @@ pub struct Tally {
 }
 
 impl Tally {
-    pub const ZERO: Tally = Tally { bytes: 0, busy: 0, flickerless: 0 };
+    pub const ZERO: Tally = Tally {
+        bytes: 0,
+        busy: 0,
+        flickerless: 0,
+    };
 
     fn above_limit(&self) -> bool {
         self.bytes > LIMIT || self.busy > LIMIT || self.flickerless > LIMIT
@@ -356,7 +371,11 @@ impl Tally {
 
     pub fn from_bytes(b: &[u8]) -> Tally {
         let at = |i: usize| u32::from_le_bytes([b[i], b[i + 1], b[i + 2], b[i + 3]]) as u64;
-        Tally { bytes: at(0), busy: at(4), flickerless: at(8) }
+        Tally {
+            bytes: at(0),
+            busy: at(4),
+            flickerless: at(8),
+        }
     }
 }
 
@@ -611,7 +630,9 @@ impl Moves {
     }
 
     pub fn path(&self, from: usize, to: usize) -> &[u8] {
-        self.paths[from * CELLS + to].as_ref().expect("a position command goes everywhere")
+        self.paths[from * CELLS + to]
+            .as_ref()
+            .expect("a position command goes everywhere")
     }
 }
 
@@ -736,7 +757,11 @@ pub fn try_all_strings(c: &Condition, wanted: &[u8], asked: usize, most: usize, 
         }
     }
     let strings = search.strings;
-    search.best.map(|(fewest, smallest)| Found { fewest, smallest, strings })
+    search.best.map(|(fewest, smallest)| Found {
+        fewest,
+        smallest,
+        strings,
+    })
 }
 
 struct Search<'a> {

@@ -45,7 +45,9 @@ impl Plans {
                 c.count
             )
         };
-        self.report.expect(b.untouched() && k.untouched() && o.guarded(), || format!("{}: wrote outside", call()));
+        self.report.expect(b.untouched() && k.untouched() && o.guarded(), || {
+            format!("{}: wrote outside", call())
+        });
         if got as usize > PLAN_ROOM {
             self.report.expect(false, || format!("{}: answer {}", call(), got));
             return;
@@ -55,7 +57,8 @@ impl Plans {
             format!("{}: plan {} and should be {}", call(), hex(&bytes), hex(&expected))
         });
         let rest = o.bytes()[bytes.len()..].iter().all(|&x| x == 0xEE);
-        self.report.expect(rest, || format!("{}: wrote behind the plan", call()));
+        self.report
+            .expect(rest, || format!("{}: wrote behind the plan", call()));
         self.longest = self.longest.max(bytes.len());
         self.total += bytes.len() as u64;
 
@@ -65,17 +68,26 @@ impl Plans {
         should.fonts = [c.font; CELLS];
         should.cursor = asked;
         let own = run(c, &Tally::ZERO, &bytes).map(|x| x.0);
-        self.report.expect(own.as_ref() == Ok(&should), || format!("{}: the plan {} gives another picture", call(), hex(&bytes)));
+        self.report.expect(own.as_ref() == Ok(&should), || {
+            format!("{}: the plan {} gives another picture", call(), hex(&bytes))
+        });
         let mut after = block;
         let mut tally = [0; TALLY];
         let answer = sign::run(&mut after, &mut tally, &bytes);
         self.report.expect(answer == 0 && after == should.to_block(), || {
-            format!("{}: the plan {} gives another picture by sign_run (answer {})", call(), hex(&bytes), answer)
+            format!(
+                "{}: the plan {} gives another picture by sign_run (answer {})",
+                call(),
+                hex(&bytes),
+                answer
+            )
         });
         // and planned once more it needs no bytes
         let mut out = [0; PLAN_ROOM];
         let again = sign::plan(&after, wanted, asked as u32, &mut out);
-        self.report.expect(again == 0 && out == [0; PLAN_ROOM], || format!("{}: planned again, answer {}", call(), again));
+        self.report.expect(again == 0 && out == [0; PLAN_ROOM], || {
+            format!("{}: planned again, answer {}", call(), again)
+        });
 
         // no reading-order string is shorter
         let fewest = fewest_bytes(c, wanted, asked, &self.moves);
@@ -95,7 +107,9 @@ impl Plans {
         let found = try_all_strings(c, wanted, asked, expected.len(), expected.len() <= 2);
         self.searched += 1;
         match found {
-            None => self.report.expect(false, || "the search over all strings found none".to_string()),
+            None => self
+                .report
+                .expect(false, || "the search over all strings found none".to_string()),
             Some(f) => {
                 self.strings += f.strings;
                 let same = got == f.fewest && got <= PLAN_ROOM && f.smallest.as_deref() == Some(&out[..got]);
@@ -120,13 +134,20 @@ impl Plans {
 /// A condition that can be planned from: mode 1, nothing half received, no user character on the
 /// planner's codes; now and then user characters below 20h.
 fn start(rng: &mut Rng) -> Condition {
-    let mut c = if rng.once_in(2) { inputs::any_condition(rng) } else { inputs::reached_condition(rng) };
+    let mut c = if rng.once_in(2) {
+        inputs::any_condition(rng)
+    } else {
+        inputs::reached_condition(rng)
+    };
     c.mode = 1;
     c.scroll_on = false;
     c.half = Half::Nothing;
     for i in 0..c.count {
         if PLANNERS_CODES.contains(&c.users[i].code) {
-            let free = (0u8..=255).rev().find(|&x| !c.is_user(x) && !PLANNERS_CODES.contains(&x)).unwrap();
+            let free = (0u8..=255)
+                .rev()
+                .find(|&x| !c.is_user(x) && !PLANNERS_CODES.contains(&x))
+                .unwrap();
             c.users[i].code = free;
         }
     }
@@ -264,13 +285,25 @@ fn main() {
                 wanted[cell] = wanted_code(&c, &mut p.rng);
             }
         }
-        let asked = if p.rng.once_in(2) { p.rng.below(CELLS) } else { (near + p.rng.below(5)) % CELLS };
+        let asked = if p.rng.once_in(2) {
+            p.rng.below(CELLS)
+        } else {
+            (near + p.rng.below(5)) % CELLS
+        };
         p.try_picture(&c, &wanted, asked);
         p.try_all(&c, &wanted, asked, if i % 20 == 0 { 6 } else { 5 });
     }
     let cases = p.report.cases;
-    println!("plans: longest {} bytes, mean {:.2}", p.longest, p.total as f64 / cases as f64);
-    println!("plans: {} small differences confirmed by running {} strings", p.searched, p.strings);
-    p.report.expect(p.longest == 44, || "the longest plan should be 44 bytes".to_string());
+    println!(
+        "plans: longest {} bytes, mean {:.2}",
+        p.longest,
+        p.total as f64 / cases as f64
+    );
+    println!(
+        "plans: {} small differences searched, {} strings run",
+        p.searched, p.strings
+    );
+    p.report
+        .expect(p.longest == 44, || "the longest plan should be 44 bytes".to_string());
     p.report.end("plans", 20_000);
 }

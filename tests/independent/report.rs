@@ -8,7 +8,10 @@ pub struct Report {
 
 impl Report {
     pub fn new() -> Report {
-        Report { cases: 0, differences: 0 }
+        Report {
+            cases: 0,
+            differences: 0,
+        }
     }
 
     /// One thing that must hold; `what` is printed where it does not.
@@ -27,7 +30,11 @@ impl Report {
         if self.cases < at_least {
             println!("{}: too few cases, at least {} were to be tried", name, at_least);
         }
-        std::process::exit(if self.differences == 0 && self.cases >= at_least { 0 } else { 1 });
+        std::process::exit(if self.differences == 0 && self.cases >= at_least {
+            0
+        } else {
+            1
+        });
     }
 }
 

@@ -41,17 +41,29 @@ fn bench_sheet(r: &mut Report, moves: &Moves) {
     bench(r, 3, c.codes == picture(&[(39, 0x42)]) && c.cursor == 0 && t.busy == 21);
 
     let (c, t) = after(&[0x12, 0x1B, 0x48, 0x27, 0x42]);
-    bench(r, 4, c.codes == picture(&[(19, 0x42)]) && c.cursor == 20 && t.busy == 40);
+    bench(
+        r,
+        4,
+        c.codes == picture(&[(19, 0x42)]) && c.cursor == 20 && t.busy == 40,
+    );
 
     let (c, t) = after(&[0x13, 0x1B, 0x48, 0x13, 0x41, 0x42]);
-    bench(r, 5, c.codes == picture(&[(18, 0x41), (19, 0x42)]) && c.cursor == 19 && t.busy == 47);
+    bench(
+        r,
+        5,
+        c.codes == picture(&[(18, 0x41), (19, 0x42)]) && c.cursor == 19 && t.busy == 47,
+    );
 
     let (c, t) = after(&[0x1B, 0x48, 0x28]);
     bench(r, 6, c == start && t.busy == 14);
 
     let (c, t) = after(&[0x1B, 0x43, 0x21, 0x84, 0x10, 0x02, 0x00, 0x01]);
     let lit: Vec<usize> = (1..=35).filter(|&k| c.dot(0x21, k) == Ok(true)).collect();
-    bench(r, 7, lit == [3, 8, 13, 18, 33] && c.lit(0x21) == Ok(5) && c.underline(0x21) == Ok(false) && t.busy == 55);
+    bench(
+        r,
+        7,
+        lit == [3, 8, 13, 18, 33] && c.lit(0x21) == Ok(5) && c.underline(0x21) == Ok(false) && t.busy == 55,
+    );
 
     let (c, _) = after(&[0x1B, 0x48, 0x14, 0x08]);
     bench(r, 8, c.cursor == 20);
@@ -75,7 +87,11 @@ fn bench_sheet(r: &mut Report, moves: &Moves) {
     let mut thirteen = vec![0x0C];
     thirteen.extend_from_slice(&[0x41; 40]);
     thirteen.extend_from_slice(&[0x1B, 0x48, 0x27]);
-    bench(r, 13, thirteen.len() == 44 && plan(&c, &[0x41; 40], 39, moves) == Ok(thirteen));
+    bench(
+        r,
+        13,
+        thirteen.len() == 44 && plan(&c, &[0x41; 40], 39, moves) == Ok(thirteen),
+    );
 
     let (c, _) = after(&[0x1B, 0x48, 0x14]);
     bench(r, 14, plan(&c, &[0x20; 40], 19, moves) == Ok(vec![0x1B, 0x48, 0x13]));
@@ -89,7 +105,9 @@ fn sample(r: &mut Report) {
     r.cases += 1;
     r.expect(show(&[0x41, 0x0A, 0x42, 0x0C]) == expected, || "the sample".to_string());
     r.cases += 1;
-    r.expect(show(&[0x41; 32_769]) == "refused 4\n", || "the refused sample".to_string());
+    r.expect(show(&[0x41; 32_769]) == "refused 4\n", || {
+        "the refused sample".to_string()
+    });
 }
 
 /// Short strings worked out by hand from the papers: bytes, cursor, busy, flickerless, cells not blank.
@@ -105,14 +123,44 @@ fn worked_examples(r: &mut Report) {
         // mode 3: what ends scroll-on and what leaves it
         (&[0x13, 0x1B, 0x48, 0x13, 0x41, 0x0E, 0x42], 19, 99, 0, &[(19, 0x42)]),
         (&[0x13, 0x1B, 0x48, 0x13, 0x41, 0x13, 0x42], 19, 40, 0, &[(19, 0x42)]),
-        (&[0x13, 0x1B, 0x48, 0x13, 0x41, 0x09, 0x42], 19, 53, 0, &[(18, 0x41), (19, 0x42)]),
-        (&[0x13, 0x1B, 0x48, 0x13, 0x41, 0x1B, 0x48, 0x28, 0x42], 19, 61, 0, &[(18, 0x41), (19, 0x42)]),
-        (&[0x13, 0x1B, 0x48, 0x13, 0x41, 0x1B, 0x48, 0x13, 0x42], 19, 48, 0, &[(19, 0x42)]),
+        (
+            &[0x13, 0x1B, 0x48, 0x13, 0x41, 0x09, 0x42],
+            19,
+            53,
+            0,
+            &[(18, 0x41), (19, 0x42)],
+        ),
+        (
+            &[0x13, 0x1B, 0x48, 0x13, 0x41, 0x1B, 0x48, 0x28, 0x42],
+            19,
+            61,
+            0,
+            &[(18, 0x41), (19, 0x42)],
+        ),
+        (
+            &[0x13, 0x1B, 0x48, 0x13, 0x41, 0x1B, 0x48, 0x13, 0x42],
+            19,
+            48,
+            0,
+            &[(19, 0x42)],
+        ),
         (&[0x13, 0x1B, 0x48, 0x27, 0x41, 0x0A, 0x42], 39, 40, 0, &[(39, 0x42)]),
-        (&[0x13, 0x1B, 0x48, 0x13, 0x41, 0x0A, 0x42], 39, 40, 0, &[(19, 0x41), (39, 0x42)]),
+        (
+            &[0x13, 0x1B, 0x48, 0x13, 0x41, 0x0A, 0x42],
+            39,
+            40,
+            0,
+            &[(19, 0x41), (39, 0x42)],
+        ),
         // mode 2: 0Ah and 09h scroll
         (&[0x1B, 0x48, 0x14, 0x41, 0x12, 0x0A], 21, 47, 0, &[(0, 0x41)]),
-        (&[0x1B, 0x48, 0x27, 0x41, 0x12, 0x1B, 0x48, 0x27, 0x09], 20, 61, 0, &[(19, 0x41)]),
+        (
+            &[0x1B, 0x48, 0x27, 0x41, 0x12, 0x1B, 0x48, 0x27, 0x09],
+            20,
+            61,
+            0,
+            &[(19, 0x41)],
+        ),
         // mode 1: both ends
         (&[0x1B, 0x48, 0x27, 0x09], 0, 20, 0, &[]),
         (&[0x1B, 0x48, 0x13, 0x09], 20, 20, 0, &[]),
@@ -129,29 +177,50 @@ fn worked_examples(r: &mut Report) {
     for (bytes, cursor, busy, flickerless, cells) in examples {
         let (c, t) = after(bytes);
         r.cases += 1;
-        let tally = Tally { bytes: bytes.len() as u64, busy, flickerless };
-        r.expect(c.cursor == cursor && t == tally && c.codes == picture(cells), || format!("example {}", hex(bytes)));
+        let tally = Tally {
+            bytes: bytes.len() as u64,
+            busy,
+            flickerless,
+        };
+        r.expect(c.cursor == cursor && t == tally && c.codes == picture(cells), || {
+            format!("example {}", hex(bytes))
+        });
     }
     // user characters: the fifth byte is cut; the seventeenth ends the oldest, and a redefinition none
     let (c, _) = after(examples[3].0);
-    r.expect(c.users[0] == User { code: 0x41, dots: [0x0C, 0x0E, 0x1B, 0x49, 0x0F] }, || "user bytes".to_string());
+    r.expect(
+        c.users[0]
+            == User {
+                code: 0x41,
+                dots: [0x0C, 0x0E, 0x1B, 0x49, 0x0F],
+            },
+        || "user bytes".to_string(),
+    );
     let mut bytes = Vec::new();
-    for code in [0x0C, 0x80, 0x81, 0x82, 0x83, 0x84, 0x85, 0x86, 0x87, 0x88, 0x89, 0x8A, 0x8B, 0x8C, 0x8D, 0x8E, 0x80] {
+    for code in [
+        0x0C, 0x80, 0x81, 0x82, 0x83, 0x84, 0x85, 0x86, 0x87, 0x88, 0x89, 0x8A, 0x8B, 0x8C, 0x8D, 0x8E, 0x80,
+    ] {
         bytes.extend_from_slice(&[0x1B, 0x43, code, 0, 0, 0, 0, 0]);
     }
     let (c, _) = after(&[&bytes[..], &[0x41, 0x0C]].concat());
-    r.expect(c.count == 16 && c.codes == picture(&[(0, 0x41), (1, 0x0C)]), || "sixteen user characters".to_string());
+    r.expect(c.count == 16 && c.codes == picture(&[(0, 0x41), (1, 0x0C)]), || {
+        "sixteen user characters".to_string()
+    });
     bytes.extend_from_slice(&[0x1B, 0x43, 0x0E, 0, 0, 0, 0, 0, 0x41, 0x0E, 0x0C]);
     let (c, _) = after(&bytes);
     let right = c.codes == picture(&[(0, 0x41), (1, 0x0E)]) && c.cursor == 0 && c.users[0].code == 0x80;
     r.expect(right, || "the seventeenth user character".to_string());
     // fonts and the Euro mark
     let (c, _) = after(&[0x1A, 0x19, 0x0E]);
-    r.expect(c.euro && c.font == 1 && c.fonts == [1; CELLS], || "19h, and a clear".to_string());
+    r.expect(c.euro && c.font == 1 && c.fonts == [1; CELLS], || {
+        "19h, and a clear".to_string()
+    });
     let (c, _) = after(&[0x1A, 0x19, 0x0E, 0x1B, 0x49]);
     r.expect(c == Condition::power_up(0), || "Initialise".to_string());
     let (c, _) = after(&[0x1B, 0x4C, 0x40, 0x1B, 0x54, 0x00, 0x15]);
-    r.expect(c.luminance == 1 && c.speed == 0 && c.shown, || "luminance, speed, cursor".to_string());
+    r.expect(c.luminance == 1 && c.speed == 0 && c.shown, || {
+        "luminance, speed, cursor".to_string()
+    });
 }
 
 /// The rule of the table of move lengths: 0 exactly from a place to itself, otherwise the least over
@@ -175,10 +244,16 @@ fn move_rule(r: &mut Report, moves: &Moves) {
             for p in 0..CELLS {
                 least = least.min(3 + moves.path(lands(a, &[0x1B, 0x48, p as u8]), b).len());
             }
-            let rule = if a == b { number == 0 } else { number == least && number > 0 };
+            let rule = if a == b {
+                number == 0
+            } else {
+                number == least && number > 0
+            };
             r.cases += 1;
             r.expect(rule && number <= 3, || format!("the move table from {} to {}", a, b));
-            r.expect(lands(a, moves.path(a, b)) == b, || format!("the way from {} to {}", a, b));
+            r.expect(lands(a, moves.path(a, b)) == b, || {
+                format!("the way from {} to {}", a, b)
+            });
         }
     }
     let examples: [(usize, usize, &[u8]); 3] = [(1, 20, &[0x08, 0x0A]), (5, 0, &[0x0C]), (20, 19, &[0x1B, 0x48, 0x13])];
@@ -192,16 +267,24 @@ fn move_rule(r: &mut Report, moves: &Moves) {
 fn conditions(r: &mut Report) {
     let mut rng = Rng::new(1);
     for i in 0..3_000 {
-        let c = if i % 2 == 0 { inputs::any_condition(&mut rng) } else { inputs::reached_condition(&mut rng) };
+        let c = if i % 2 == 0 {
+            inputs::any_condition(&mut rng)
+        } else {
+            inputs::reached_condition(&mut rng)
+        };
         r.cases += 1;
         r.expect(c.well_formed(), || format!("not well formed: {:?}", c));
         let block = c.to_block();
-        r.expect(Condition::from_block(&block).as_ref() == Ok(&c), || format!("not read back: {:?}", c));
+        r.expect(Condition::from_block(&block).as_ref() == Ok(&c), || {
+            format!("not read back: {:?}", c)
+        });
         for b in 0..=255 {
             let mut next = c.clone();
             let busy = next.take(b);
             r.expect(next.well_formed(), || format!("{:02X} breaks {:?}", b, c));
-            r.expect([4, 6, 7, 15, 20, 40, 65].contains(&busy), || format!("busy {} after {:02X}", busy, b));
+            r.expect([4, 6, 7, 15, 20, 40, 65].contains(&busy), || {
+                format!("busy {} after {:02X}", busy, b)
+            });
         }
         let length = rng.below(60);
         let bytes = inputs::some_bytes(&mut rng, length);

@@ -30,10 +30,15 @@ struct Shows {
 impl Shows {
     fn try_on(&mut self, input: &[u8], by: By) {
         let mut command = Command::new(&self.words[0]);
-        command.args(&self.words[1..]).stdout(Stdio::piped()).stderr(Stdio::piped());
+        command
+            .args(&self.words[1..])
+            .stdout(Stdio::piped())
+            .stderr(Stdio::piped());
         let path = std::env::temp_dir().join(format!("show-input-{}", std::process::id()));
         if by == By::File {
-            File::create(&path).and_then(|mut f| f.write_all(input)).expect("a temporary file");
+            File::create(&path)
+                .and_then(|mut f| f.write_all(input))
+                .expect("a temporary file");
             command.stdin(File::open(&path).expect("a temporary file"));
         } else {
             command.stdin(Stdio::piped());
@@ -55,8 +60,18 @@ impl Shows {
         }
         let mut out = Vec::new();
         let mut err = Vec::new();
-        child.stdout.take().unwrap().read_to_end(&mut out).expect("standard output");
-        child.stderr.take().unwrap().read_to_end(&mut err).expect("standard error");
+        child
+            .stdout
+            .take()
+            .unwrap()
+            .read_to_end(&mut out)
+            .expect("standard output");
+        child
+            .stderr
+            .take()
+            .unwrap()
+            .read_to_end(&mut err)
+            .expect("standard error");
         let status = child.wait().expect("the program ends");
         if by == By::File {
             let _ = std::fs::remove_file(&path);
@@ -73,7 +88,12 @@ impl Shows {
             )
         });
         self.report.expect(err.is_empty() && status.success(), || {
-            format!("input {}\n  {}; standard error: {}", hex(input), status, String::from_utf8_lossy(&err))
+            format!(
+                "input {}\n  {}; standard error: {}",
+                hex(input),
+                status,
+                String::from_utf8_lossy(&err)
+            )
         });
     }
 
@@ -101,7 +121,10 @@ fn main() {
         eprintln!("usage: show PROGRAM..");
         std::process::exit(2);
     }
-    let mut s = Shows { words, report: Report::new() };
+    let mut s = Shows {
+        words,
+        report: Report::new(),
+    };
     let mut rng = Rng::new(2);
 
     // nothing, the sample, each single byte
@@ -135,7 +158,13 @@ fn main() {
     ];
     for seq in &sequences {
         for cut in 0..=seq.len() {
-            for tail in [&[][..], &[0x58], &[0x41, 0x0C, 0x59], &[0x1B, 0x48, 0x27, 0x5A, 0x5A], &[0x1B, 0x1B, 0x49]] {
+            for tail in [
+                &[][..],
+                &[0x58],
+                &[0x41, 0x0C, 0x59],
+                &[0x1B, 0x48, 0x27, 0x5A, 0x5A],
+                &[0x1B, 0x1B, 0x49],
+            ] {
                 let mut input = vec![0x61, 0x62];
                 input.extend_from_slice(&seq[..cut]);
                 input.extend_from_slice(tail);
@@ -165,7 +194,14 @@ fn main() {
                 s.on(&input);
             }
         }
-        for e in [&[0x1B, 0x48, p][..], &[0x1B, 0x48, 0x28], &[0x1B, 0x58], &[0x1B, 0x53], &[0x1B, 0x54, 1], &[0x1B, 0x49]] {
+        for e in [
+            &[0x1B, 0x48, p][..],
+            &[0x1B, 0x48, 0x28],
+            &[0x1B, 0x58],
+            &[0x1B, 0x53],
+            &[0x1B, 0x54, 1],
+            &[0x1B, 0x49],
+        ] {
             let mut input = filled(3);
             input.extend_from_slice(&[0x1B, 0x48, p, 0x51]);
             input.extend_from_slice(e);
@@ -198,7 +234,17 @@ fn main() {
     }
 
     // lengths at the limit
-    for &n in &[32_767usize, 32_768, 32_769, 32_770, 40_000, 65_536, 65_537, 100_000, 1_000_000] {
+    for &n in &[
+        32_767usize,
+        32_768,
+        32_769,
+        32_770,
+        40_000,
+        65_536,
+        65_537,
+        100_000,
+        1_000_000,
+    ] {
         s.on(&vec![0x41; n]);
         let mixed = inputs::mixed(n);
         s.on(&mixed);
@@ -225,7 +271,16 @@ fn main() {
         ]);
         let length = if i % 10 == 0 { rng.below(3_000) } else { rng.below(300) };
         let input = commands(&mut rng, length, flavour, true);
-        s.try_on(&input, if i % 40 == 7 { By::File } else if i % 40 == 8 { By::Pieces } else { By::Pipe });
+        s.try_on(
+            &input,
+            if i % 40 == 7 {
+                By::File
+            } else if i % 40 == 8 {
+                By::Pieces
+            } else {
+                By::Pipe
+            },
+        );
     }
 
     s.report.end("show", 2_000);

@@ -26,13 +26,28 @@ extern "C" {
 
 pub fn run(block: &mut [u8], tally: &mut [u8], bytes: &[u8]) -> u32 {
     unsafe {
-        sign_run(block.as_mut_ptr(), block.len(), tally.as_mut_ptr(), tally.len(), bytes.as_ptr(), bytes.len())
+        sign_run(
+            block.as_mut_ptr(),
+            block.len(),
+            tally.as_mut_ptr(),
+            tally.len(),
+            bytes.as_ptr(),
+            bytes.len(),
+        )
     }
 }
 
 pub fn plan(block: &[u8], codes: &[u8], cursor: u32, out: &mut [u8]) -> u32 {
     unsafe {
-        sign_plan(block.as_ptr(), block.len(), codes.as_ptr(), codes.len(), cursor, out.as_mut_ptr(), out.len())
+        sign_plan(
+            block.as_ptr(),
+            block.len(),
+            codes.as_ptr(),
+            codes.len(),
+            cursor,
+            out.as_mut_ptr(),
+            out.len(),
+        )
     }
 }
 
@@ -58,7 +73,12 @@ impl Lent {
             *g = (i as u8).wrapping_mul(pattern) ^ 0xA5;
         }
         all[from..to].copy_from_slice(content);
-        Lent { before: all.clone(), all, from, to }
+        Lent {
+            before: all.clone(),
+            all,
+            from,
+            to,
+        }
     }
 
     pub fn bytes(&self) -> &[u8] {

@@ -5,4 +5,3 @@ pub mod Users
 pub mod Good
 pub mod Kept
 pub mod Pieces
-pub mod Bench

@@ -122,7 +122,8 @@ fn users_good(n: usize, s: &[u8]) -> bool
     up_to(0, &s[at..])
 }
 
-fn is_idle(p: Pending) -> bool
+// No command is half received.
+pub fn is_idle(p: Pending) -> bool
     ensures { λ r. ⌜ r ≡ idle p ⌝ }
 {
     match p {

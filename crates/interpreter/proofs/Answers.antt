@@ -1,12 +1,13 @@
 -- What each way through a run comes to.
-use Prim.Native.Nat.{ℕ, _+_, _*_, _≤_, _<_}
+use Prim.Native.Nat.{ℕ, _+_, _≤_, _<_}
 use mathlib.Core.Path.{_≡_, refl, ap, sym, _∙_}
-use mathlib.Core.Bool.{Bool, true, false, cond, not, _&&_}
+use mathlib.Core.Bool.{Bool, true, false, _&&_}
 use mathlib.Core.List.{List, _++_}
 use native.Mathlib.Omega.{arith}
-use lib.Dec.{eqb, ltb, leb}
-use lib.ListN.{length, getD}
-use borrow.Author.Tests.{eq-eqb, ne-eqb, lt-ltb, le-ltb, leb-true}
+use lib.Dec.{eqb, leb}
+use lib.ListN.{length, getD, length-append}
+use native.Mathlib.Nat.{add-assoc}
+use borrow.Author.Tests.{ne-eqb, lt-ltb, le-ltb, leb-true, eqb-false}
 use Rattle.condition.specs.declared.Condition.{Condition}
 use Rattle.condition.specs.Condition.{wellFormed}
 use Rattle.condition.specs.Bytes.{runOf}
@@ -14,13 +15,13 @@ use Rattle.condition.specs.Busy.{busyOf, flickerlessOf}
 use Rattle.condition.proofs.Good.{Sized}
 use Rattle.condition.proofs.Places.{both}
 use Rattle.condition.proofs.Kept.{run-kept}
-use Rattle.condition.proofs.Pieces.{busy-most, flickerless-most}
+use Rattle.condition.proofs.Pieces.{run-append, busy-append, flickerless-append, busy-most, flickerless-most}
 use Rattle.block.specs.Layout.{packedOf, conditionIn}
 use Rattle.block.proofs.PackedBack.{packed-back}
 use Rattle.interpreter.specs.declared.Tally.{Tally}
 use Rattle.interpreter.specs.declared.Ran.{Ran}
 use Rattle.interpreter.specs.InPlace.{Carried}
-use Rattle.interpreter.specs.Run.{limit, withinLimit, tallied, runRefusal, refusedOf, runAnswer, RunPromise}
+use Rattle.interpreter.specs.Run.{limit, withinLimit, tallied, runRefusal, refusedOf, runAnswer, RunPromise, LentPromise}
 
 -- each number of a tally within its limit
 pub record Within (t : Tally) : Type 0 where
@@ -100,13 +101,52 @@ pub ran : (t : Tally) (c k : Condition) (bs : List ℕ) (busy flickerless : ℕ)
     (record { refusal = 0; condition = runOf c bs; tally = tallied t c bs })
 ran t c k bs busy flickerless g = rw (g .leaves, tallies t c k bs busy flickerless g)
 
--- any two answers that a promise allows are equal
-pub one-run : (c : Condition) (t : Tally) (bs : List ℕ) (r s : Ran) → RunPromise c t bs r → RunPromise c t bs s → r ≡ s
-one-run c t bs r s p q = p .answer ∙ sym (q .answer)
-
 -- a run on the packed condition
 pub carries : (c : Condition) (p after : List ℕ) (k : Condition) (bs : List ℕ) (busy flickerless : ℕ) → Sized c → p ≡ packedOf c
     → k ≡ conditionIn after → Carried (conditionIn p) bs (conditionIn after) busy flickerless → Carried c bs k busy flickerless
 carries c p after k bs busy flickerless s e f g =
     let h : conditionIn p ≡ c = ap conditionIn e ∙ packed-back c s in
     rw f (rw h at g)
+
+-- Any two answers that a promise allows are equal --------------------------------------------------------------------------
+
+pub one-run : (c : Condition) (t : Tally) (bs : List ℕ) (r s : Ran) → RunPromise c t bs r → RunPromise c t bs s → r ≡ s
+one-run c t bs r s p q = p .answer ∙ sym (q .answer)
+
+pub one-lent-run : (c : Condition) (t : Tally) (bs : List ℕ) (r s : Ran) (x y : Tally) → LentPromise c t bs r x → LentPromise c t bs s y
+    → (r ≡ s) × (x ≡ y)
+one-lent-run c t bs r s x y p q =
+    let e : r ≡ s = one-run c t bs r s (p .ran) (q .ran) in
+    (e, p .stored ∙ ap (λ (k : Ran). k .tally) e ∙ sym (q .stored))
+
+-- One run or several with the same bytes in turn end alike where no piece and no whole is refused ------------------------------
+
+accepted-is : (c : Condition) (t : Tally) (bs : List ℕ) (r : Ran) → RunPromise c t bs r → r .refusal ≡ 0
+    → r ≡ record { refusal = 0; condition = runOf c bs; tally = tallied t c bs }
+unfolding runAnswer
+accepted-is c t bs r p z = go (eqb (runRefusal c t bs) 0) refl
+  where
+    go : (b : Bool) → eqb (runRefusal c t bs) 0 ≡ b → r ≡ record { refusal = 0; condition = runOf c bs; tally = tallied t c bs }
+    go true e = p .answer ∙ rw e
+    go false e =
+        let f : r ≡ refusedOf (runRefusal c t bs) c t = p .answer ∙ rw e in
+        absurd (eqb-false (runRefusal c t bs) 0 e (sym (ap (λ (r : Ran). r .refusal) f) ∙ z))
+
+tallied-append : (t : Tally) (c : Condition) (xs ys : List ℕ) → tallied t c (xs ++ ys) ≡ tallied (tallied t c xs) (runOf c xs) ys
+unfolding tallied
+tallied-append t c xs ys =
+    rw (
+      length-append xs ys,
+      busy-append c xs ys,
+      flickerless-append c xs ys,
+      ← add-assoc (t .bytes) (length xs) (length ys),
+      ← add-assoc (t .busy) (busyOf c xs) (busyOf (runOf c xs) ys),
+      ← add-assoc (t .flickerless) (flickerlessOf c xs) (flickerlessOf (runOf c xs) ys),
+    )
+
+pub in-pieces : (c : Condition) (t : Tally) (xs ys : List ℕ) (r s w : Ran) → RunPromise c t xs r → RunPromise (r .condition) (r .tally) ys s
+    → RunPromise c t (xs ++ ys) w → r .refusal ≡ 0 → s .refusal ≡ 0 → w .refusal ≡ 0 → w ≡ s
+in-pieces c t xs ys r s w p q u zr zs zw =
+    let e = accepted-is c t xs r p zr in
+    accepted-is c t (xs ++ ys) w u zw ∙ rw (run-append, tallied-append)
+    (sym (accepted-is (r .condition) (r .tally) ys s q zs ∙ rw e))

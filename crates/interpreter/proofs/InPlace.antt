@@ -2,17 +2,16 @@
 use Prim.Native.Nat.{ℕ, zero, suc, _+_, _-_, _≤_, _<_}
 use mathlib.Core.Path.{_≡_, refl, ap, sym, _∙_}
 use mathlib.Core.List.{List, [], _∷_, _++_, append-assoc, append-nil}
-use mathlib.Core.Bool.{Bool, true, false}
 use native.Mathlib.Omega.{arith}
 use lib.Dec.{eqb}
 use borrow.Author.Tests.{eq-eqb}
-use lib.ListN.{length, getD, take, drop, set, replicate, length-drop, length-take, length-append, take-append-drop}
+use lib.ListN.{length, getD, take, drop, set, replicate, length-drop, take-append-drop}
 use lib.Seq.{take-at, drop-at, drop-drop, take-add, length-take-le, take-all, drop-length}
 use Rattle.row.specs.Row.{onPicture, laid}
 use Rattle.row.proofs.Laws.{pictured}
 use Rattle.users.specs.Users.{usersIn, defineIn}
 use Rattle.condition.specs.declared.Condition.{Condition}
-use Rattle.condition.specs.Set.{withCursor, withMode, withScrolling, withShown, withFont, withEuro, withLuminance, withSpeed, withFlickerless, withUsers, withPending, withHeld, withCells, goTo}
+use Rattle.condition.specs.Set.{withCursor, withScrolling, withShown, withFont, withEuro, withLuminance, withSpeed, withFlickerless, withUsers, withPending, withCells, goTo}
 use Rattle.condition.specs.Bytes.{modeOf, internationalOf}
 use Rattle.block.specs.Layout.{conditionIn, pendingOf}
 use Rattle.interpreter.specs.InPlace.{blankOf, heldIn, releasedIn, freshHead, resetIn, withUserBytes, withCount, definedIn}
@@ -38,59 +37,59 @@ stored f g e s h = each 24 (Makes f g) e s (omega arith)
 
 pub cursor-in : (s : List ℕ) (x : ℕ) → 200 ≤ length s → conditionIn (set s 3 x) ≡ withCursor (conditionIn s) x
 unfolding conditionIn
-cursor-in s x h = stored (λ (l : List ℕ). set l 3 x) (λ (k : Condition). withCursor k x) (λ a0 a1 a2 a3 a4 a5 a6 a7 a8 a9 a10 a11 a12 a13 a14 a15 a16 a17 a18 a19 a20 a21 a22 a23 r. refl) s h
+cursor-in s x h = stored (λ (l : List ℕ). set l 3 x) (λ (k : Condition). withCursor k x) (search) s h
 
 pub go-in : (s : List ℕ) (x : ℕ) → 200 ≤ length s → conditionIn (set (set s 3 x) 5 0) ≡ goTo (conditionIn s) x
 unfolding conditionIn
-go-in s x h = stored (λ (l : List ℕ). set (set l 3 x) 5 0) (λ (k : Condition). goTo k x) (λ a0 a1 a2 a3 a4 a5 a6 a7 a8 a9 a10 a11 a12 a13 a14 a15 a16 a17 a18 a19 a20 a21 a22 a23 r. refl) s h
+go-in s x h = stored (λ (l : List ℕ). set (set l 3 x) 5 0) (λ (k : Condition). goTo k x) (search) s h
 
 pub scrolling-in : (s : List ℕ) (v : ℕ) → 200 ≤ length s → conditionIn (set s 5 v) ≡ withScrolling (conditionIn s) (eqb v 1)
 unfolding conditionIn
-scrolling-in s v h = stored (λ (l : List ℕ). set l 5 v) (λ (k : Condition). withScrolling k (eqb v 1)) (λ a0 a1 a2 a3 a4 a5 a6 a7 a8 a9 a10 a11 a12 a13 a14 a15 a16 a17 a18 a19 a20 a21 a22 a23 r. refl) s h
+scrolling-in s v h = stored (λ (l : List ℕ). set l 5 v) (λ (k : Condition). withScrolling k (eqb v 1)) (search) s h
 
 pub mode-in : (s : List ℕ) (m : ℕ) → 200 ≤ length s → conditionIn (set (set s 4 m) 5 0) ≡ modeOf (conditionIn s) m
 unfolding conditionIn
-mode-in s m h = stored (λ (l : List ℕ). set (set l 4 m) 5 0) (λ (k : Condition). modeOf k m) (λ a0 a1 a2 a3 a4 a5 a6 a7 a8 a9 a10 a11 a12 a13 a14 a15 a16 a17 a18 a19 a20 a21 a22 a23 r. refl) s h
+mode-in s m h = stored (λ (l : List ℕ). set (set l 4 m) 5 0) (λ (k : Condition). modeOf k m) (search) s h
 
 pub shown-in : (s : List ℕ) (v : ℕ) → 200 ≤ length s → conditionIn (set s 6 v) ≡ withShown (conditionIn s) (eqb v 1)
 unfolding conditionIn
-shown-in s v h = stored (λ (l : List ℕ). set l 6 v) (λ (k : Condition). withShown k (eqb v 1)) (λ a0 a1 a2 a3 a4 a5 a6 a7 a8 a9 a10 a11 a12 a13 a14 a15 a16 a17 a18 a19 a20 a21 a22 a23 r. refl) s h
+shown-in s v h = stored (λ (l : List ℕ). set l 6 v) (λ (k : Condition). withShown k (eqb v 1)) (search) s h
 
 pub international-in : (s : List ℕ) → 200 ≤ length s → conditionIn (set (set s 7 0) 9 0) ≡ internationalOf (conditionIn s)
 unfolding conditionIn
-international-in s h = stored (λ (l : List ℕ). set (set l 7 0) 9 0) (λ (k : Condition). internationalOf k) (λ a0 a1 a2 a3 a4 a5 a6 a7 a8 a9 a10 a11 a12 a13 a14 a15 a16 a17 a18 a19 a20 a21 a22 a23 r. refl) s h
+international-in s h = stored (λ (l : List ℕ). set (set l 7 0) 9 0) (λ (k : Condition). internationalOf k) (search) s h
 
 pub font-in : (s : List ℕ) (f : ℕ) → 200 ≤ length s → conditionIn (set s 7 f) ≡ withFont (conditionIn s) f
 unfolding conditionIn
-font-in s f h = stored (λ (l : List ℕ). set l 7 f) (λ (k : Condition). withFont k f) (λ a0 a1 a2 a3 a4 a5 a6 a7 a8 a9 a10 a11 a12 a13 a14 a15 a16 a17 a18 a19 a20 a21 a22 a23 r. refl) s h
+font-in s f h = stored (λ (l : List ℕ). set l 7 f) (λ (k : Condition). withFont k f) (search) s h
 
 pub euro-in : (s : List ℕ) (v : ℕ) → 200 ≤ length s → conditionIn (set s 9 v) ≡ withEuro (conditionIn s) (eqb v 1)
 unfolding conditionIn
-euro-in s v h = stored (λ (l : List ℕ). set l 9 v) (λ (k : Condition). withEuro k (eqb v 1)) (λ a0 a1 a2 a3 a4 a5 a6 a7 a8 a9 a10 a11 a12 a13 a14 a15 a16 a17 a18 a19 a20 a21 a22 a23 r. refl) s h
+euro-in s v h = stored (λ (l : List ℕ). set l 9 v) (λ (k : Condition). withEuro k (eqb v 1)) (search) s h
 
 pub luminance-in : (s : List ℕ) (v : ℕ) → 200 ≤ length s → conditionIn (set s 10 v) ≡ withLuminance (conditionIn s) v
 unfolding conditionIn
-luminance-in s v h = stored (λ (l : List ℕ). set l 10 v) (λ (k : Condition). withLuminance k v) (λ a0 a1 a2 a3 a4 a5 a6 a7 a8 a9 a10 a11 a12 a13 a14 a15 a16 a17 a18 a19 a20 a21 a22 a23 r. refl) s h
+luminance-in s v h = stored (λ (l : List ℕ). set l 10 v) (λ (k : Condition). withLuminance k v) (search) s h
 
 pub speed-in : (s : List ℕ) (v : ℕ) → 200 ≤ length s → conditionIn (set s 11 v) ≡ withSpeed (conditionIn s) v
 unfolding conditionIn
-speed-in s v h = stored (λ (l : List ℕ). set l 11 v) (λ (k : Condition). withSpeed k v) (λ a0 a1 a2 a3 a4 a5 a6 a7 a8 a9 a10 a11 a12 a13 a14 a15 a16 a17 a18 a19 a20 a21 a22 a23 r. refl) s h
+speed-in s v h = stored (λ (l : List ℕ). set l 11 v) (λ (k : Condition). withSpeed k v) (search) s h
 
 pub flickerless-in : (s : List ℕ) (v : ℕ) → 200 ≤ length s → conditionIn (set s 12 v) ≡ withFlickerless (conditionIn s) (eqb v 1)
 unfolding conditionIn
-flickerless-in s v h = stored (λ (l : List ℕ). set l 12 v) (λ (k : Condition). withFlickerless k (eqb v 1)) (λ a0 a1 a2 a3 a4 a5 a6 a7 a8 a9 a10 a11 a12 a13 a14 a15 a16 a17 a18 a19 a20 a21 a22 a23 r. refl) s h
+flickerless-in s v h = stored (λ (l : List ℕ). set l 12 v) (λ (k : Condition). withFlickerless k (eqb v 1)) (search) s h
 
 pub pending-in : (s : List ℕ) (p a n : ℕ) → 200 ≤ length s → conditionIn (set (set (set s 13 p) 14 a) 15 n) ≡ withPending (conditionIn s) (pendingOf p a n)
 unfolding conditionIn
-pending-in s p a n h = stored (λ (l : List ℕ). set (set (set l 13 p) 14 a) 15 n) (λ (k : Condition). withPending k (pendingOf p a n)) (λ a0 a1 a2 a3 a4 a5 a6 a7 a8 a9 a10 a11 a12 a13 a14 a15 a16 a17 a18 a19 a20 a21 a22 a23 r. refl) s h
+pending-in s p a n h = stored (λ (l : List ℕ). set (set (set l 13 p) 14 a) 15 n) (λ (k : Condition). withPending k (pendingOf p a n)) (search) s h
 
 pub count-in : (s : List ℕ) (n : ℕ) → 200 ≤ length s → conditionIn (set s 20 n) ≡ withCount (conditionIn s) n
 unfolding conditionIn
-count-in s n h = stored (λ (l : List ℕ). set l 20 n) (λ (k : Condition). withCount k n) (λ a0 a1 a2 a3 a4 a5 a6 a7 a8 a9 a10 a11 a12 a13 a14 a15 a16 a17 a18 a19 a20 a21 a22 a23 r. refl) s h
+count-in s n h = stored (λ (l : List ℕ). set l 20 n) (λ (k : Condition). withCount k n) (search) s h
 
 pub release-in : (s : List ℕ) → 200 ≤ length s → conditionIn (set (set (set (set s 16 0) 17 0) 18 0) 19 0) ≡ releasedIn (conditionIn s)
 unfolding conditionIn
-release-in s h = stored (λ (l : List ℕ). set (set (set (set l 16 0) 17 0) 18 0) 19 0) (λ (k : Condition). releasedIn k) (λ a0 a1 a2 a3 a4 a5 a6 a7 a8 a9 a10 a11 a12 a13 a14 a15 a16 a17 a18 a19 a20 a21 a22 a23 r. refl) s h
+release-in s h = stored (λ (l : List ℕ). set (set (set (set l 16 0) 17 0) 18 0) 19 0) (λ (k : Condition). releasedIn k) (search) s h
 
 pub ruleset stores = (cursor-in, go-in, scrolling-in, mode-in, shown-in, international-in, font-in, euro-in, luminance-in, speed-in, flickerless-in, pending-in, count-in, release-in)
 
@@ -100,10 +99,10 @@ unfolding conditionIn
 hold-in s n d l h = stored (λ (l : List ℕ). set l (16 + n) d) (λ (k : Condition). heldIn k n d) (at n l) s h
   where
     at : (n : ℕ) → n < 4 → Each 24 (Makes (λ (l : List ℕ). set l (16 + n) d) (λ (k : Condition). heldIn k n d))
-    at zero l = λ a0 a1 a2 a3 a4 a5 a6 a7 a8 a9 a10 a11 a12 a13 a14 a15 a16 a17 a18 a19 a20 a21 a22 a23 r. refl
-    at (suc zero) l = λ a0 a1 a2 a3 a4 a5 a6 a7 a8 a9 a10 a11 a12 a13 a14 a15 a16 a17 a18 a19 a20 a21 a22 a23 r. refl
-    at (suc (suc zero)) l = λ a0 a1 a2 a3 a4 a5 a6 a7 a8 a9 a10 a11 a12 a13 a14 a15 a16 a17 a18 a19 a20 a21 a22 a23 r. refl
-    at (suc (suc (suc zero))) l = λ a0 a1 a2 a3 a4 a5 a6 a7 a8 a9 a10 a11 a12 a13 a14 a15 a16 a17 a18 a19 a20 a21 a22 a23 r. refl
+    at zero l = search
+    at (suc zero) l = search
+    at (suc (suc zero)) l = search
+    at (suc (suc (suc zero))) l = search
     at (suc (suc (suc (suc n)))) l = let z : ⊥ = omega arith in absurd z
 
 -- the bytes held, one by one
@@ -111,7 +110,7 @@ pub held-in : (s : List ℕ) → 200 ≤ length s → conditionIn s .held ≡ ge
 unfolding conditionIn
 held-in s h =
     each 24 (λ (s : List ℕ). conditionIn s .held ≡ getD s 16 0 ∷ getD s 17 0 ∷ getD s 18 0 ∷ getD s 19 0 ∷ [])
-    (λ a0 a1 a2 a3 a4 a5 a6 a7 a8 a9 a10 a11 a12 a13 a14 a15 a16 a17 a18 a19 a20 a21 a22 a23 r. refl) s (omega arith)
+    (search) s (omega arith)
 
 -- Fields, read at their bytes ------------------------------------------------------------------------------------------------
 
@@ -150,8 +149,6 @@ pending-at s = refl
 pub users-at : (s : List ℕ) → conditionIn s .users ≡ usersIn (take 96 (drop 104 s)) (getD s 20 0)
 unfolding conditionIn
 users-at s = refl
-
-pub ruleset fields = (cursor-at, mode-at, scrolling-at, font-at, link-at, flickerless-at, pending-at)
 
 -- Stores to a part ---------------------------------------------------------------------------------------------------------
 
@@ -293,7 +290,7 @@ laid-all s d h = rw (← h, take-all (length s) s (omega arith), h, drop-length 
 -- bytes 3 to 20, as at power-up for a font
 reset-in : (s : List ℕ) (f : ℕ) → 200 ≤ length s → conditionIn (spliced 3 18 s (freshHead f)) ≡ resetIn (conditionIn s) f
 unfolding conditionIn
-reset-in s f h = stored (λ (l : List ℕ). spliced 3 18 l (freshHead f)) (λ (k : Condition). resetIn k f) (λ a0 a1 a2 a3 a4 a5 a6 a7 a8 a9 a10 a11 a12 a13 a14 a15 a16 a17 a18 a19 a20 a21 a22 a23 r. refl) s h
+reset-in s f h = stored (λ (l : List ℕ). spliced 3 18 l (freshHead f)) (λ (k : Condition). resetIn k f) (search) s h
 
 pub reset-by : (s x : List ℕ) (f : ℕ) → 200 ≤ length s → x ≡ laid (freshHead f) (take 18 (drop 3 s))
     → conditionIn (spliced 3 18 s x) ≡ resetIn (conditionIn s) f

@@ -1,9 +1,9 @@
 -- What the code's tests tell of the definitions' tests.
-use Prim.Native.Nat.{ℕ, zero, suc, _+_, _-_, _%_, _≤_, _<_}
-use mathlib.Core.Path.{_≡_, refl, ap, sym, _∙_}
+use Prim.Native.Nat.{ℕ, _-_, _%_, _<_}
+use mathlib.Core.Path.{_≡_, refl, sym}
 use mathlib.Core.Bool.{Bool, true, false, _||_}
 use native.Mathlib.Omega.{arith}
-use lib.Dec.{eqb, ltb, leb}
+use lib.Dec.{eqb, ltb}
 use Rattle.condition.specs.declared.Pending.the-variants.{UserData}
 use Rattle.block.specs.Layout.{pendingOf}
 use borrow.Author.Tests.{lt-ltb, le-ltb, le-leb, lt-leb, eq-eqb, ne-eqb, ltb-true, ltb-false}
@@ -29,14 +29,9 @@ edge-column x e = eq-eqb (x % 20) 19 (omega (arith, ltb-false (x % 20) 19 e))
 pub inner-column : (x : ℕ) → ltb (x % 20) 19 ≡ true → eqb (x % 20) 19 ≡ false
 inner-column x e = ne-eqb (x % 20) 19 (λ q. omega (arith, ltb-true (x % 20) 19 e))
 
--- either test
 pub or-true : (a : Bool) → a || true ≡ true
 or-true true = refl
 or-true false = refl
-
-pub or-false : (a : Bool) → a || false ≡ a
-or-false true = refl
-or-false false = refl
 
 -- a kind that is none of 0 to 5 awaits user data
 pub awaits-data : (k code n : ℕ) → 0 < k → (k ≡ 1 → ⊥) → (k ≡ 2 → ⊥) → (k ≡ 3 → ⊥) → (k ≡ 4 → ⊥) → (k ≡ 5 → ⊥)

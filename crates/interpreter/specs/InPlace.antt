@@ -1,19 +1,16 @@
 -- What the parts of a command make of a condition, for the functions that work in place.
-use Prim.Native.Nat.{ℕ, _≤_, _<_, _*_}
+use Prim.Native.Nat.{ℕ}
 use mathlib.Core.Path.{_≡_}
 use mathlib.Core.List.{List, [], _∷_}
-use mathlib.Core.Bool.{Bool, true, false}
-use lib.ListN.{getD, take, drop, set, replicate}
-use lib.Dec.{eqb}
+use mathlib.Core.Bool.{false}
+use lib.ListN.{set, replicate}
 use Rattle.row.specs.Row.{lineStart, shifted}
-use Rattle.users.specs.declared.Users.{Users}
 use Rattle.users.specs.Users.{defineOf, usersIn}
 use Rattle.condition.specs.declared.Condition.{Condition}
 use Rattle.condition.specs.declared.Pending.the-variants.{Nothing}
 use Rattle.condition.specs.Set.{withCells, withUsers, withHeld}
 use Rattle.condition.specs.Bytes.{stepOf, runOf}
 use Rattle.condition.specs.Busy.{figureOf, busyOf, flickerlessOf}
-use Rattle.block.specs.Layout.{pendingOf}
 
 -- the cursor's line shifts left one, and the code b comes to its column 19
 abbrev pub shiftOf : Condition → ℕ → Condition

@@ -5,7 +5,7 @@ ghost use Prim.Native.Nat.{_≤_, _+_};
 ghost use lib.ListN.{length};
 ghost use Rattle.condition.specs.Condition.{wellFormed};
 ghost use Rattle.interpreter.specs.InPlace.{Carried};
-ghost use Rattle.interpreter.specs.Run.{withinLimit, tallied, refusedOf, RunPromise, LentPromise};
+ghost use Rattle.interpreter.specs.Run.{withinLimit, refusedOf, RunPromise, LentPromise};
 use condition::Condition;
 use turn::run_in;
 
@@ -37,7 +37,7 @@ pub struct Ran {
 }
 
 // The most bytes in a run.
-pub const MOST: usize = 32768;
+pub const MOST_BYTES: usize = 32768;
 
 fn within_limit(t: Tally) -> bool
     ensures { λ r. ⌜ r ≡ withinLimit t ⌝ }
@@ -86,7 +86,7 @@ pub fn run(c: Condition, t: Tally, bytes: &[u8]) -> Ran
     if !within_limit(t) {
         return refused(3, c, t);
     }
-    if MOST < bytes.len() {
+    if MOST_BYTES < bytes.len() {
         return refused(4, c, t);
     }
     let after = carry(c, bytes);

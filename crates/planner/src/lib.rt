@@ -1,6 +1,5 @@
 // The planner: the bytes that give a picture and a cursor.
 use condition::Condition;
-use condition::Pending;
 ghost use mathlib.Core.Path.{_≡_};
 ghost use mathlib.Core.List.{[], _∷_, _++_};
 ghost use mathlib.Core.Bool.{cond, _&&_, not};
@@ -9,7 +8,6 @@ ghost use lib.Dec.{eqb};
 ghost use lib.ListN.{length, drop};
 ghost use lib.Seq.{sets};
 ghost use Rattle.users.specs.Users.{isUser, usersIn};
-ghost use Rattle.condition.specs.Condition.{idle};
 ghost use Rattle.moves.specs.Moves.{next};
 ghost use Rattle.moves.specs.Ways.{path};
 ghost use Rattle.planner.specs.Parts.{planIn};
@@ -66,20 +64,6 @@ fn some_lacks(bytes: &[u8], count: u8, wanted: &[u8]) -> bool
     false
 }
 
-fn is_idle(p: Pending) -> bool
-    ensures { λ r. ⌜ r ≡ idle p ⌝ }
-{
-    match p {
-        Pending::Nothing => true,
-        Pending::Escape => false,
-        Pending::Position => false,
-        Pending::Luminance => false,
-        Pending::Speed => false,
-        Pending::UserCode => false,
-        Pending::UserData(_, _) => false,
-    }
-}
-
 // The refusal numbers in their order, by whether each is given.
 fn lowest(n1: bool, n3: bool, n6: bool, n7: bool, n8: bool, n9: bool, n10: bool) -> u8
     ensures { λ r. ⌜ r ≡ cond n1 1 (cond n3 3 (cond n6 6 (cond n7 7 (cond n8 8 (cond n9 9 (cond n10 10 0)))))) ⌝ }
@@ -115,7 +99,7 @@ fn refusal(c: Condition, wanted: &[u8], asked: u32, room: usize) -> u8
     let bytes = u.bytes;
     let count = u.count;
     let formed = c.well_formed();
-    let idle = is_idle(pending);
+    let idle = condition::is_idle(pending);
     let blocked = on_move(&bytes, count);
     let lacking = some_lacks(&bytes, count, wanted);
     lowest(

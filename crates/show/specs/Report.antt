@@ -46,19 +46,21 @@ numbered word n = word ++ decimalOf n
 abbrev pub newLine : List ℕ
 newLine = 0x0A ∷ []
 
+-- three words, each with its number, and a new line
+abbrev pub lineOf : List ℕ → ℕ → List ℕ → ℕ → List ℕ → ℕ → List ℕ
+lineOf a x b y c z = numbered a x ++ (numbered b y ++ (numbered c z ++ newLine))
+
 -- in decimal cursor, mode, selected font: `cursor C mode M font F`
 unfoldable pub placeLine : Condition → List ℕ
 placeLine c =
-    numbered (99 ∷ 117 ∷ 114 ∷ 115 ∷ 111 ∷ 114 ∷ 32 ∷ []) (c .cursor)
-    ++ (numbered (32 ∷ 109 ∷ 111 ∷ 100 ∷ 101 ∷ 32 ∷ []) (c .mode)
-    ++ (numbered (32 ∷ 102 ∷ 111 ∷ 110 ∷ 116 ∷ 32 ∷ []) (c .font) ++ newLine))
+    lineOf (99 ∷ 117 ∷ 114 ∷ 115 ∷ 111 ∷ 114 ∷ 32 ∷ []) (c .cursor) (32 ∷ 109 ∷ 111 ∷ 100 ∷ 101 ∷ 32 ∷ []) (c .mode)
+    (32 ∷ 102 ∷ 111 ∷ 110 ∷ 116 ∷ 32 ∷ []) (c .font)
 
 -- then the tally: `bytes B busy T flickerless F`
 unfoldable pub tallyLine : Tally → List ℕ
 tallyLine t =
-    numbered (98 ∷ 121 ∷ 116 ∷ 101 ∷ 115 ∷ 32 ∷ []) (t .bytes)
-    ++ (numbered (32 ∷ 98 ∷ 117 ∷ 115 ∷ 121 ∷ 32 ∷ []) (t .busy)
-    ++ (numbered (32 ∷ 102 ∷ 108 ∷ 105 ∷ 99 ∷ 107 ∷ 101 ∷ 114 ∷ 108 ∷ 101 ∷ 115 ∷ 115 ∷ 32 ∷ []) (t .flickerless) ++ newLine))
+    lineOf (98 ∷ 121 ∷ 116 ∷ 101 ∷ 115 ∷ 32 ∷ []) (t .bytes) (32 ∷ 98 ∷ 117 ∷ 115 ∷ 121 ∷ 32 ∷ []) (t .busy)
+    (32 ∷ 102 ∷ 108 ∷ 105 ∷ 99 ∷ 107 ∷ 101 ∷ 114 ∷ 108 ∷ 101 ∷ 115 ∷ 115 ∷ 32 ∷ []) (t .flickerless)
 
 unfoldable pub reportOf : Condition → Tally → List ℕ
 reportOf c t = cellLines (c .codes) ++ (placeLine c ++ tallyLine t)

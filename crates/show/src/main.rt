@@ -2,7 +2,7 @@
 ghost use mathlib.Core.Path.{_≡_};
 ghost use Prim.Native.Nat.{_+_, _*_, _≤_, _<_};
 ghost use lib.ListN.{length, take};
-ghost use Rattle.show.specs.Report.{Added, hexDigit, separatorOf, hexLine, decimalOf, numbered, cellLines, placeLine, tallyLine, shownOf};
+ghost use Rattle.show.specs.Report.{Added, hexDigit, separatorOf, hexLine, decimalOf, numbered, lineOf, cellLines, placeLine, tallyLine, shownOf};
 use condition::Condition;
 use interpreter::Ran;
 use interpreter::Tally;
@@ -70,24 +70,48 @@ fn add_number(out: &mut [u8], k: usize, word: &[u8], n: u64) -> usize
     add_decimal(out, at, n)
 }
 
+// Three words, each with its number, and a new line come at k.
+fn add_line(out: &mut [u8], k: usize, a: &[u8], x: u64, b: &[u8], y: u64, c: &[u8], z: u64) -> usize
+    requires { ⌜ k + length (now a) + length (now b) + length (now c) + 61 ≤ length (now out) ⌝ }
+    ensures { λ r. ⌜ (Added (now (out .entry)) k (lineOf (now (a .entry)) x (now (b .entry)) y (now (c .entry)) z) (now (out .exit)) r)
+        × (r ≤ k + length (now (a .entry)) + length (now (b .entry)) + length (now (c .entry)) + 61) ⌝ }
+{
+    let first = add_number(out, k, a, x);
+    let second = add_number(out, first, b, y);
+    let third = add_number(out, second, c, z);
+    add_word(out, third, b"\n")
+}
+
 fn add_place(out: &mut [u8], k: usize, c: Condition) -> usize
     requires { ⌜ k + 80 ≤ length (now out) ⌝ }
     ensures { λ r. ⌜ (Added (now (out .entry)) k (placeLine c) (now (out .exit)) r) × (r ≤ k + 80) ⌝ }
 {
-    let a = add_number(out, k, b"cursor ", c.cursor as u64);
-    let b = add_number(out, a, b" mode ", c.mode as u64);
-    let d = add_number(out, b, b" font ", c.font as u64);
-    add_word(out, d, b"\n")
+    add_line(
+        out,
+        k,
+        b"cursor ",
+        c.cursor as u64,
+        b" mode ",
+        c.mode as u64,
+        b" font ",
+        c.font as u64,
+    )
 }
 
 fn add_tally(out: &mut [u8], k: usize, t: Tally) -> usize
     requires { ⌜ k + 86 ≤ length (now out) ⌝ }
     ensures { λ r. ⌜ (Added (now (out .entry)) k (tallyLine t) (now (out .exit)) r) × (r ≤ k + 86) ⌝ }
 {
-    let a = add_number(out, k, b"bytes ", t.bytes as u64);
-    let b = add_number(out, a, b" busy ", t.busy as u64);
-    let d = add_number(out, b, b" flickerless ", t.flickerless as u64);
-    add_word(out, d, b"\n")
+    add_line(
+        out,
+        k,
+        b"bytes ",
+        t.bytes as u64,
+        b" busy ",
+        t.busy as u64,
+        b" flickerless ",
+        t.flickerless as u64,
+    )
 }
 
 // The codes by line.

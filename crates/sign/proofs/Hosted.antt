@@ -180,3 +180,14 @@ power-up-written font out g r left e good w = go (leb font 1) refl
         let three : g .refusal ≡ 3 = ap (λ (o : Outcome). o .refusal) (e ∙ unpowered font h) in
         let z : ⊥ = omega arith in
         absurd z
+
+-- ---- any two allowed answers are equal
+
+pub one-host-run : (b t bs : List ℕ) (r s : ℕ) (x y u v : List ℕ) → HostRun b t bs r x u → HostRun b t bs s y v → (r ≡ s) × (x ≡ y) × (u ≡ v)
+one-host-run b t bs r s x y u v p q = (p .answer ∙ sym (q .answer), p .block ∙ sym (q .block), p .tally ∙ sym (q .tally))
+
+pub one-host-plan : (b w : List ℕ) (k : ℕ) (out : List ℕ) (r s : ℕ) (x y : List ℕ) → HostPlan b w k out r x → HostPlan b w k out s y → (r ≡ s) × (x ≡ y)
+one-host-plan b w k out r s x y p q = (p .answer ∙ sym (q .answer), p .buffer ∙ sym (q .buffer))
+
+pub one-host-power-up : (font : ℕ) (out : List ℕ) (r s : ℕ) (x y : List ℕ) → HostPowerUp font out r x → HostPowerUp font out s y → (r ≡ s) × (x ≡ y)
+one-host-power-up font out r s x y p q = (p .answer ∙ sym (q .answer), p .buffer ∙ sym (q .buffer))

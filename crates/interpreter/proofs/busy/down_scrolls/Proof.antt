@@ -1,5 +1,5 @@
 use Rattle.condition.specs.Busy.{downScrolls}
-use Rattle.interpreter.proofs.InPlace.{cursor-at, mode-at, scrolling-at}
+use Rattle.interpreter.proofs.InPlace.{cursor-at, mode-at}
 use borrow.Author.Tests.{eq-eqb, ne-eqb}
 use borrow.Author.Needs.{needs}
 use Rattle.interpreter.proofs.busy.down_scrolls.Statement.{statement}
@@ -13,11 +13,11 @@ shared-slice-read-result c = search needs
 
 returns : tie.Need-returns
 unfolding downScrolls
-returns c = simp (cursor-at, mode-at, scrolling-at, eq-eqb _ _ (c .before .if1 .taken))
+returns c = simp (cursor-at, mode-at, eq-eqb _ _ (c .before .if1 .taken))
 
 returns-2 : tie.Need-returns-2
 unfolding downScrolls
-returns-2 c = simp (cursor-at, mode-at, scrolling-at, ne-eqb _ _ (c .if1 .left))
+returns-2 c = simp (cursor-at, mode-at, ne-eqb _ _ (c .if1 .left))
 
 pub down-scrolls-spec : {M : Type 1} → statement M
 down-scrolls-spec =

@@ -29,5 +29,3 @@ returns-6 c = search (tests, c .match .rest)
 
 pub escape-busy-spec : {M : Type 1} → statement M
 escape-busy-spec = tie.close (tie.spec returns returns-2 returns-3 returns-4 returns-5 returns-6)
-
--- t

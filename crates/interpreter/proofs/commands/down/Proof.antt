@@ -1,5 +1,5 @@
 use Rattle.condition.specs.Bytes.{downOf}
-use Rattle.interpreter.proofs.InPlace.{cursor-at, mode-at, scrolling-at}
+use Rattle.interpreter.proofs.InPlace.{cursor-at, mode-at}
 use borrow.Author.Tests.{eq-eqb, le-ltb, lt-ltb, ne-eqb}
 use borrow.Author.Needs.{needs}
 use Rattle.interpreter.proofs.commands.down.Statement.{statement}
@@ -22,7 +22,7 @@ same-length c = search needs
 
 returns : tie.Need-returns
 unfolding downOf
-returns c = rw (c .before .before .go-to .ensures) (simp (cursor-at, mode-at, scrolling-at, lt-ltb _ _ (c .before .before .before .before .if1 .taken)))
+returns c = rw (c .before .before .go-to .ensures) (simp (cursor-at, mode-at, lt-ltb _ _ (c .before .before .before .before .if1 .taken)))
 
 go-to-requires-2 : tie.Need-go-to-requires-2
 go-to-requires-2 c κs = search needs
@@ -32,7 +32,7 @@ same-length-2 c = search needs
 
 returns-2 : tie.Need-returns-2
 unfolding downOf
-returns-2 c = rw (c .before .before .go-to2 .ensures) (simp (cursor-at, mode-at, scrolling-at, eq-eqb _ _ (c .before .before .before .before .if2 .taken), le-ltb _ _ (c .before .before .before .before .before .if1 .left)))
+returns-2 c = rw (c .before .before .go-to2 .ensures) (simp (cursor-at, mode-at, eq-eqb _ _ (c .before .before .before .before .if2 .taken), le-ltb _ _ (c .before .before .before .before .before .if1 .left)))
 
 scroll-requires : tie.Need-scroll-requires
 scroll-requires c κs = search needs
@@ -45,7 +45,7 @@ same-length-3 c = search needs
 
 returns-3 : tie.Need-returns-3
 unfolding downOf
-returns-3 c = rw (c .before .before .set-scrolling .ensures, c .before .before .before .before .before .before .scroll .ensures) (simp (cursor-at, mode-at, scrolling-at, eq-eqb _ _ (c .before .before .before .before .before .before .before .before .if3 .taken), ne-eqb _ _ (c .before .before .before .before .before .before .before .before .before .if2 .left), le-ltb _ _ (c .before .before .before .before .before .before .before .before .before .before .if1 .left)))
+returns-3 c = rw (c .before .before .set-scrolling .ensures, c .before .before .before .before .before .before .scroll .ensures) (simp (cursor-at, mode-at, eq-eqb _ _ (c .before .before .before .before .before .before .before .before .if3 .taken), ne-eqb _ _ (c .before .before .before .before .before .before .before .before .before .if2 .left), le-ltb _ _ (c .before .before .before .before .before .before .before .before .before .before .if1 .left)))
 
 set-scrolling-requires-2 : tie.Need-set-scrolling-requires-2
 set-scrolling-requires-2 c κs = search needs
@@ -55,7 +55,7 @@ same-length-4 c = search needs
 
 returns-4 : tie.Need-returns-4
 unfolding downOf
-returns-4 c = rw (c .before .before .set-scrolling2 .ensures) (simp (cursor-at, mode-at, scrolling-at, ne-eqb _ _ (c .before .before .before .before .if3 .left), ne-eqb _ _ (c .before .before .before .before .before .if2 .left), le-ltb _ _ (c .before .before .before .before .before .before .if1 .left)))
+returns-4 c = rw (c .before .before .set-scrolling2 .ensures) (simp (cursor-at, mode-at, ne-eqb _ _ (c .before .before .before .before .if3 .left), ne-eqb _ _ (c .before .before .before .before .before .if2 .left), le-ltb _ _ (c .before .before .before .before .before .before .if1 .left)))
 
 pub down-spec : {M : Type 1} → statement M
 down-spec =

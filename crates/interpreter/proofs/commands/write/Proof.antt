@@ -1,4 +1,3 @@
-use Prim.Native.Nat.{_<_, _+_}
 use mathlib.Core.Path.{_≡_, _∙_, ap}
 use lib.ListN.{getD}
 use Rattle.condition.specs.Bytes.{rightOf}

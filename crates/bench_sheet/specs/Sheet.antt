@@ -1,22 +1,21 @@
--- The bench sheet (document 01), cases 1 to 10: one table under one statement, computed from the definitions.
-use Prim.Native.Nat.{ℕ, zero, suc}
-use mathlib.Core.Path.{_≡_, refl}
+-- The bench sheet (document 01): fourteen cases, each from power-up font 0.
+use Prim.Native.Nat.{ℕ, zero, suc, _≤_}
+use mathlib.Core.Path.{_≡_}
 use mathlib.Core.List.{List, [], _∷_, _++_}
-use mathlib.Core.Bool.{true, cond}
-use lib.ListN.{getD, drop, replicate}
+use mathlib.Core.Bool.{cond}
+use lib.ListN.{length, getD, set, drop, replicate}
 use lib.Dec.{eqb}
-use Rattle.row.specs.Row.{lineStart, scrolled, shifted}
-use Rattle.users.specs.Users.{limitOf, foundIn, isUser, characterAt, putOf, definedAt, defineOf}
-use Rattle.users.specs.Dots.{dotOf, litUpTo, litOf}
 use Rattle.condition.specs.declared.Condition.{Condition}
 use Rattle.condition.specs.declared.Shows.the-variants.{Blank, Euro}
-use Rattle.condition.specs.Condition.{allUpTo, absent, usersGood, pendingGood, numbersGood, scrollGood, escapeGood, wellFormed, powerUp}
-use Rattle.condition.specs.Bytes.{scrollOf, leftOf, rightOf, pushOf, writeOf, isChar, controlOf, escapeOf, positionOf, dataOf, stepAt, runOf}
-use Rattle.condition.specs.Busy.{rightScrolls, lineShifts, writeBusy, controlBusy, escapeBusy, figureAt, busyOf}
-use Rattle.condition.specs.Shows.{showsCode, showsOf}
-use Rattle.condition.specs.Answers.{lookupOf, dotAnswer, litAnswer}
+use Rattle.condition.specs.Condition.{powerUp}
+use Rattle.condition.specs.Bytes.{runOf}
+use Rattle.condition.specs.Busy.{busyOf}
+use Rattle.condition.specs.Shows.{showsOf}
+use Rattle.condition.specs.Answers.{dotAnswer, litAnswer}
+use Rattle.planner.specs.Plan.{plan}
+use Rattle.planner.specs.Answer.{planRefusal}
 
--- a case: bytes that are run from power-up font 0, and what then holds of the condition and of the busy time
+-- a case: bytes that are run, and what then holds of the condition and of the busy time
 pub record Case : Type 1 where
   pub bytes : List ℕ
   pub holds : Condition → ℕ → Type 0
@@ -33,6 +32,17 @@ cell c i = getD (c .codes) i 0
 unfoldable pub dotsUpTo : Condition → ℕ → ℕ → List ℕ
 dotsUpTo c code zero = []
 dotsUpTo c code (suc n) = dotsUpTo c code n ++ cond (eqb (dotAnswer c code (suc n) .value) 1) (suc n ∷ []) []
+
+-- the plan is accepted, with room for 44 bytes, and is these bytes
+abbrev pub Planned : Condition → List ℕ → ℕ → List ℕ → Type 0
+Planned c wanted asked bytes = (planRefusal c wanted asked 44 ≡ 0) × (plan c wanted asked ≡ bytes)
+
+abbrev pub blank : List ℕ
+blank = replicate 40 0x20
+
+-- 41h at 0, 42h at 21, else 20h
+abbrev pub two : List ℕ
+two = set (set blank 0 0x41) 21 0x42
 
 abbrev pub sheet : List Case
 sheet =
@@ -57,35 +67,31 @@ sheet =
     -- 7. 1B 43 21 84 10 02 00 01: P3 P8 P13 P18 P33, five lit, busy 55
     ∷ record {
       bytes = 0x1B ∷ 0x43 ∷ 0x21 ∷ 0x84 ∷ 0x10 ∷ 0x02 ∷ 0x00 ∷ 0x01 ∷ [];
-      holds = λ c busy. (dotsUpTo c 0x21 35 ≡ 3 ∷ 8 ∷ 13 ∷ 18 ∷ 33 ∷ []) × (litAnswer c 0x21 ≡ record { refusal = 0; value = 5 }) × (busy ≡ 55);
+      holds = λ c busy.
+          (dotsUpTo c 0x21 35 ≡ 3 ∷ 8 ∷ 13 ∷ 18 ∷ 33 ∷ []) × (litAnswer c 0x21 ≡ record { refusal = 0; value = 5 }) × (busy ≡ 55);
     }
     -- 8. 1B 48 14 08: cursor 20
     ∷ record { bytes = 0x1B ∷ 0x48 ∷ 0x14 ∷ 0x08 ∷ []; holds = λ c busy. c .cursor ≡ 20 }
     -- 9. 1A AD shows Euro; then 18, blank
     ∷ record { bytes = 0x1A ∷ 0xAD ∷ []; holds = λ c busy. (showsOf c 0 ≡ Euro) × (showsOf (runOf c (0x18 ∷ [])) 0 ≡ Blank) }
-    -- 10. 1B 43 09 00 00 00 00 00 09: cell 0 is 09h, cursor 1; a user character sits on 09h
+    -- 10. 1B 43 09 00 00 00 00 00 09: cell 0 is 09h, cursor 1; plans refused 8
     ∷ record {
       bytes = 0x1B ∷ 0x43 ∷ 0x09 ∷ 0x00 ∷ 0x00 ∷ 0x00 ∷ 0x00 ∷ 0x00 ∷ 0x09 ∷ [];
-      holds = λ c busy. (cell c 0 ≡ 0x09) × (c .cursor ≡ 1) × (isUser (c .users) 0x09 ≡ true);
+      holds = λ c busy.
+          (cell c 0 ≡ 0x09) × (c .cursor ≡ 1)
+          × ((wanted : List ℕ) (asked room : ℕ) → length wanted ≡ 40 → asked ≤ 39 → planRefusal c wanted asked room ≡ 8);
     }
+    -- 11. plan 41h at 0, 42h at 21, else 20h, cursor 0: 41 0A 42 0C
+    ∷ record { bytes = []; holds = λ c busy. Planned c two 0 (0x41 ∷ 0x0A ∷ 0x42 ∷ 0x0C ∷ []) }
+    -- 12. after running 11's plan, plan the same picture and cursor: no bytes
+    ∷ record { bytes = 0x41 ∷ 0x0A ∷ 0x42 ∷ 0x0C ∷ []; holds = λ c busy. Planned c two 0 [] }
+    -- 13. 1B 48 05, then plan all cells 41h, cursor 39: 0C, forty 41, 1B 48 27; 44 bytes
+    ∷ record {
+      bytes = 0x1B ∷ 0x48 ∷ 0x05 ∷ [];
+      holds = λ c busy.
+          Planned c (replicate 40 0x41) 39 (0x0C ∷ (replicate 40 0x41 ++ 0x1B ∷ 0x48 ∷ 0x27 ∷ []))
+          × (length (plan c (replicate 40 0x41) 39) ≡ 44);
+    }
+    -- 14. 1B 48 14, then plan a blank picture, cursor 19: 1B 48 13
+    ∷ record { bytes = 0x1B ∷ 0x48 ∷ 0x14 ∷ []; holds = λ c busy. Planned c blank 19 (0x1B ∷ 0x48 ∷ 0x13 ∷ []) }
     ∷ []
-
-infixr 20 _⨾_
--- a case, and the cases after it
-_⨾_ : {A B : Type 0} → A → B → A × B
-a ⨾ b = (a, b)
-
-pub bench : AllHold sheet
-unfolding powerUp runOf stepAt isChar isUser foundIn limitOf writeOf pushOf rightOf scrollOf scrolled shifted lineStart controlOf leftOf escapeOf positionOf dataOf defineOf definedAt putOf busyOf figureAt writeBusy controlBusy escapeBusy rightScrolls lineShifts showsOf showsCode dotsUpTo dotAnswer litAnswer lookupOf wellFormed numbersGood scrollGood allUpTo usersGood absent pendingGood escapeGood characterAt dotOf litOf litUpTo
-bench =
-    (refl, refl)
-    ⨾ (refl, refl, refl)
-    ⨾ (refl, refl, refl)
-    ⨾ (refl, refl, refl, refl)
-    ⨾ (refl, refl, refl, refl)
-    ⨾ (refl, refl)
-    ⨾ (refl, refl, refl)
-    ⨾ refl
-    ⨾ (refl, refl)
-    ⨾ (refl, refl, refl)
-    ⨾ tt

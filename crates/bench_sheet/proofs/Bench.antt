@@ -1,0 +1,52 @@
+-- The bench sheet holds: computed from the definitions, all fourteen cases under one statement.
+use mathlib.Core.Path.{refl}
+use lib.ListN.{length}
+use borrow.Author.Tests.{eq-eqb, le-leb}
+use Rattle.row.specs.Row.{lineStart, scrolled, shifted}
+use Rattle.users.specs.Users.{limitOf, foundIn, isUser, characterAt, putOf, definedAt, defineOf}
+use Rattle.users.specs.Dots.{dotOf, litUpTo, litOf}
+use Rattle.condition.specs.Condition.{allUpTo, absent, usersGood, pendingGood, numbersGood, scrollGood, escapeGood, wellFormed, powerUp}
+use Rattle.condition.specs.Bytes.{scrollOf, leftOf, rightOf, downOf, returnOf, clearOf, pushOf, writeOf, isChar, controlOf, escapeOf, positionOf, dataOf, stepAt, runOf}
+use Rattle.condition.specs.Busy.{rightScrolls, downScrolls, lineShifts, writeBusy, controlBusy, escapeBusy, figureAt, busyOf}
+use Rattle.condition.specs.Shows.{showsCode, showsOf}
+use Rattle.condition.specs.Answers.{lookupOf, dotAnswer, litAnswer}
+use Rattle.condition.specs.Steps.{wrong}
+use Rattle.moves.specs.Moves.{left, next, down, move, near1, near2, dist}
+use Rattle.moves.specs.Ways.{leaves, firstByte, pathOf, path}
+use Rattle.planner.specs.Plan.{flagged, planOf, plan}
+use Rattle.planner.specs.Answer.{onMove, lacks, someLacks, planRefusal}
+use Rattle.bench_sheet.specs.Sheet.{AllHold, dotsUpTo, sheet}
+
+pub bench : AllHold sheet
+unfolding powerUp runOf stepAt isChar isUser foundIn limitOf writeOf pushOf rightOf scrollOf scrolled shifted lineStart controlOf leftOf downOf returnOf clearOf escapeOf positionOf dataOf defineOf definedAt putOf busyOf figureAt writeBusy controlBusy escapeBusy rightScrolls downScrolls lineShifts showsOf showsCode dotsUpTo dotAnswer litAnswer lookupOf wellFormed numbersGood scrollGood allUpTo usersGood absent pendingGood escapeGood characterAt dotOf litOf litUpTo wrong left next down move near1 near2 dist leaves firstByte pathOf path flagged planOf plan onMove lacks someLacks planRefusal
+bench = (
+  (refl, refl),
+  (
+    (refl, refl, refl),
+    (
+      (refl, refl, refl),
+      (
+        (refl, refl, refl, refl),
+        (
+          (refl, refl, refl, refl),
+          (
+            (refl, refl),
+            (
+              (refl, refl, refl),
+              (
+                refl,
+                (
+                  (refl, refl),
+                  (
+                    (refl, refl, λ wanted asked room l q. rw (eq-eqb (length wanted) 40 l, le-leb asked 39 q)),
+                    ((refl, refl), ((refl, refl), (((refl, refl), refl), ((refl, refl), tt)))),
+                  ),
+                ),
+              ),
+            ),
+          ),
+        ),
+      ),
+    ),
+  ),
+)
