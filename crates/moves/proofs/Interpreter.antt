@@ -1,21 +1,21 @@
 -- The moves are the interpreter's: in mode 1, nothing half received and no user character on the byte, what a byte of a move does
 -- (crates/condition/specs/Bytes) is to bring the cursor to where the move leads.
 use mathlib.Core.Path.{_≡_, refl, sym, ap, _∙_}
-use mathlib.Core.Logic.{_⊎_, ⊎-elim}
-use mathlib.Core.Bool.{Bool, true, false, cond, _&&_, _||_, not, or-assoc, or-false}
+use mathlib.Core.Logic.{⊎-elim}
+use mathlib.Core.Bool.{Bool, true, false, cond, or-assoc, or-false}
 use mathlib.Core.List.{List, [], _∷_}
-use Prim.Native.Nat.{ℕ, _+_, _-_, _%_, _≤_, _<_}
+use Prim.Native.Nat.{ℕ, _+_, _-_, _%_, _<_}
 use native.Mathlib.Omega.{arith}
 use lib.Dec.{eqb, ltb, leb}
-use borrow.Author.Tests.{eqb-true, eqb-false, eq-eqb, ne-eqb, ltb-true, ltb-false, leb-true, le-leb}
+use borrow.Author.Tests.{eqb-true, eqb-false, eq-eqb, ne-eqb, ltb-true, ltb-false, lt-ltb, le-ltb, leb-true, le-leb}
 use Rattle.row.specs.Row.{lineStart}
 use Rattle.users.specs.Users.{isUser}
 use Rattle.condition.specs.declared.Condition.{Condition}
 use Rattle.condition.specs.declared.Pending.{Pending}
 use Rattle.condition.specs.declared.Pending.the-variants.{Nothing, Escape, Position, Luminance, Speed, UserCode, UserData}
-use Rattle.condition.specs.Condition.{idle, column, wellFormed, scrollGood}
+use Rattle.condition.specs.Condition.{idle, wellFormed}
 use Rattle.condition.specs.Set.{withCursor, withCell, withScrolling, withPending, goTo}
-use Rattle.condition.specs.Bytes.{leftOf, rightOf, downOf, homeOf, returnOf, writeOf, isChar, controlOf, escapeOf, positionOf, stepAt, stepOf, runOf}
+use Rattle.condition.specs.Bytes.{leftOf, rightOf, downOf, returnOf, writeOf, isChar, controlOf, escapeOf, positionOf, stepAt, stepOf, runOf}
 use Rattle.condition.specs.Steps.{isMove}
 use Rattle.condition.proofs.Good.{good}
 use Rattle.condition.proofs.Kept.{scroll-off}
@@ -62,10 +62,10 @@ go-is c x e = λ i. withScrolling (withCursor c x) (sym e i)
 next-is : (p : ℕ) → p < 40 → cond (ltb (p % 20) 19) (p + 1) (cond (eqb p 19) 20 0) ≡ next p
 unfolding next
 next-is p h =
-    ⊎-elim (λ (e : ltb (p % 20) 19 ≡ true). rw (e, ne-eqb p 39 (λ z. omega (arith, ltb-true (p % 20) 19 e))))
+    ⊎-elim (λ (e : ltb (p % 20) 19 ≡ true). rw (e, lt-ltb p 39 (omega (arith, ltb-true (p % 20) 19 e))))
     (λ (e : ltb (p % 20) 19 ≡ false).
     ⊎-elim (λ (z : eqb p 19 ≡ true). rw (e, z, eqb-true p 19 z))
-    (λ (z : eqb p 19 ≡ false). rw (e, z, eq-eqb p 39 (omega (arith, ltb-false (p % 20) 19 e, eqb-false p 19 z))))
+    (λ (z : eqb p 19 ≡ false). rw (e, z, le-ltb p 39 (omega (arith, ltb-false (p % 20) 19 e, eqb-false p 19 z))))
     (bool (eqb p 19)))
     (bool (ltb (p % 20) 19))
 
@@ -137,7 +137,7 @@ partly-ready : (c : Condition) (a : ℕ) → Ready c → a < 40 → Ready (partl
 partly-ready c a r h = record { one = r .one; still = r .still; inside = h; whole = refl }
 
 -- a string of moves that leads from a to b brings the cursor there, and changes nothing else
-pub leads-there : (c : Condition) → Ready c → ((m : ℕ) → any (eqb m) moves ≡ true → isUser (c .users) m ≡ false) → isUser (c .users) 0x1B ≡ false
+leads-there : (c : Condition) → Ready c → ((m : ℕ) → any (eqb m) moves ≡ true → isUser (c .users) m ≡ false) → isUser (c .users) 0x1B ≡ false
     → (bs : List ℕ) (k : Half) (a b : ℕ) → a < 40 → leadsTo k a b bs ≡ true → runOf (partly c k a) bs ≡ partly c none b
 unfolding runOf leadsTo escapeOf stepAt
 leads-there c r free free27 [] none a b h l = ap (partly c none) (eqb-true a b l)
@@ -170,3 +170,13 @@ is-move b = simp (or-assoc, or-false)
 pub move-law : (c : Condition) (m : ℕ) → wellFormed c ≡ true → c .mode ≡ 1 → idle (c .pending) ≡ true → isUser (c .users) m ≡ false
     → isMove m ≡ true → stepOf c m ≡ withCursor c (move m (c .cursor))
 move-law c m w one p u i = moves-to c (ready c w one p) m (sym (is-move m) ∙ i) u
+
+-- a string of moves, where no user character sits on a byte that moves
+pub string-law : (c : Condition) (bs : List ℕ) (b : ℕ) → wellFormed c ≡ true → c .mode ≡ 1 → idle (c .pending) ≡ true
+    → ((m : ℕ) → any (eqb m) moves ≡ true → isUser (c .users) m ≡ false) → isUser (c .users) 0x1B ≡ false
+    → leadsTo none (c .cursor) b bs ≡ true → runOf c bs ≡ withCursor c b
+string-law c bs b w one p free free27 l =
+    let r = ready c w one p in
+    ap (λ (d : Condition). runOf d bs) (λ i. withPending c (r .whole i))
+    ∙ leads-there c r free free27 bs none (c .cursor) b (r .inside) l
+    ∙ (λ i. withPending (withCursor c b) (sym (r .whole) i))

@@ -3,8 +3,5 @@ pub mod Moving
 pub mod Rule
 pub mod Strings
 pub mod Putting
-pub mod Answers
 pub mod Interpreter
-pub mod Every
-pub mod Rows
-pub mod Steps
+pub mod Entries

@@ -1,11 +1,10 @@
 -- Laws of the distance.
-use mathlib.Core.Path.{_≡_, refl, sym, ap, _∙_, subst}
+use mathlib.Core.Path.{_≡_, refl, sym, ap, subst}
 use mathlib.Core.Logic.{_⊎_, inl, inr, ⊎-elim}
 use mathlib.Core.Bool.{Bool, true, false, cond}
-use mathlib.Core.List.{List, [], _∷_}
-use Prim.Native.Nat.{ℕ, zero, suc, _+_, _-_, _%_, _≤_, _<_}
+use Prim.Native.Nat.{ℕ, zero, suc, _+_, _%_, _≤_, _<_}
 use native.Mathlib.Omega.{arith}
-use lib.Dec.{T, eqb, ltb}
+use lib.Dec.{eqb, ltb}
 use lib.ListN.{length}
 use borrow.Author.Tests.{eqb-true, eqb-false, eq-eqb, ltb-true, ltb-false}
 use Rattle.row.specs.Row.{lineStart}
@@ -115,11 +114,11 @@ first-byte n a b h =
 -- where a move leads
 pub next-below : (p : ℕ) → p < 40 → next p < 40
 unfolding next
-next-below p h = ⊎-elim (λ e. rw e (omega arith)) (λ e. rw e (omega (arith, eqb-false p 39 e))) (bool (eqb p 39))
+next-below p h = ⊎-elim (λ e. rw e (omega (arith, ltb-true p 39 e))) (λ e. rw e (omega arith)) (bool (ltb p 39))
 
 left-below : (p : ℕ) → p < 40 → left p < 40
 unfolding left
-left-below p h = ⊎-elim (λ e. rw e h) (λ e. rw e (omega arith)) (bool (eqb (p % 20) 0))
+left-below p h = ⊎-elim (λ e. rw e (omega arith)) (λ e. rw e (omega arith)) (bool (eqb (p % 20) 0))
 
 down-below : (p : ℕ) → p < 40 → down p < 40
 unfolding down
@@ -163,3 +162,6 @@ each-move P h8 h9 h10 h12 h13 m i =
     (λ (e12 : eqb m 12 ≡ false). ⊎-elim (λ (e : eqb m 13 ≡ true). subst P (sym (eqb-true m 13 e)) h13)
     (λ (e : eqb m 13 ≡ false). clash i (rw (e8, e9, e10, e12, e)))
     (bool (eqb m 13))) (bool (eqb m 12))) (bool (eqb m 10))) (bool (eqb m 9))) (bool (eqb m 8))
+
+pub path-most : (a b : ℕ) → length (path a b) ≤ 3
+path-most a b = omega (arith, length-path a b, dist-most a b)

@@ -1,13 +1,12 @@
 -- The rule of the table (document 01, Planner's steps) holds of the fewest move bytes.
 use mathlib.Core.Path.{_≡_, refl, sym, ap, _∙_}
-use mathlib.Core.Logic.{_≢_, _⊎_, ⊎-elim}
-use mathlib.Core.Bool.{Bool, true, false, cond}
-use Prim.Native.Nat.{ℕ, zero, suc, _+_, _≤_, _<_, min}
+use mathlib.Core.Logic.{_≢_, ⊎-elim}
+use mathlib.Core.Bool.{true, false}
+use Prim.Native.Nat.{ℕ, zero, suc, _+_, _≤_, _<_}
 use native.Mathlib.Omega.{arith}
-use lib.Dec.{eqb, ltb}
+use lib.Dec.{eqb}
 use borrow.Author.Tests.{lt-ltb, eqb-true, eqb-false}
-use Rattle.row.specs.Row.{lineStart}
-use Rattle.moves.specs.Moves.{any, left, next, down, moves, move, dist, fewestOf, leastUpTo, least, Ruled}
+use Rattle.moves.specs.Moves.{any, moves, move, dist, fewestOf, leastUpTo, least, Ruled}
 use Rattle.moves.specs.Ways.{firstByte}
 use Rattle.moves.proofs.Lists.{bool}
 use Rattle.moves.proofs.Moving.{dist-step, dist-most, dist-self, dist-zero, first-byte, each-move, move-below}

@@ -30,7 +30,7 @@ left p = cond (eqb (p % 20) 0) p (p - 1)
 
 -- 09h: right one; 39 goes to 0
 unfoldable pub next : ℕ → ℕ
-next p = cond (eqb p 39) 0 (p + 1)
+next p = cond (ltb p 39) (p + 1) 0
 
 -- 0Ah: 0-19 goes down 20; from the bottom, up 20
 unfoldable pub down : ℕ → ℕ
@@ -97,11 +97,25 @@ pub record Ruled (number : ℕ → ℕ → ℕ) (a b : ℕ) : Type 0 where
   pub otherwise : a ≢ b → number a b ≡ least number a b
   pub most : number a b ≤ 3
 
--- what `fewest` answers, and the rule of what it answers
-pub record Fewest (a b r : ℕ) : Type 0 where
-  pub answer : r ≡ fewestOf a b
-  pub rule : a < 40 → b < 40 → Ruled fewestOf a b
+-- The table ------------------------------------------------------------------------------------------------------------------
+
+-- f i, f (i + 1), .., n of them
+unfoldable pub listed : {A : Type 0} → (ℕ → A) → ℕ → ℕ → List A
+listed f zero i = []
+listed f (suc n) i = f i ∷ listed f n (suc i)
+
+-- the fewest move bytes from each position to each other: row `from`, column `to`
+unfoldable pub numbersOf : List (List ℕ)
+numbersOf = listed (λ a. listed (dist a) 40 0) 40 0
+
+abbrev pub numberIn : List (List ℕ) → ℕ → ℕ → ℕ
+numberIn rows a b = getD (getD rows a []) b 0
+
+-- what `numbers` answers, and its rule for every pair of places
+pub record Table (rows : List (List ℕ)) : Type 0 where
+  pub answer : rows ≡ numbersOf
+  pub rule : (a b : ℕ) → a < 40 → b < 40 → Ruled (numberIn rows) a b
 
 -- a table that holds the fewest move bytes from each place to each other
 abbrev pub Numbers : List (List ℕ) → Type 0
-Numbers rows = (a b : ℕ) → a < 40 → b < 40 → getD (getD rows a []) b 0 ≡ dist a b
+Numbers rows = (a b : ℕ) → a < 40 → b < 40 → numberIn rows a b ≡ dist a b

@@ -7,7 +7,6 @@ use lib.ListN.{length, take}
 use lib.Dec.{eqb, ltb, leb}
 use lib.Seq.{sets}
 use Rattle.moves.specs.Moves.{any, find, places, moves, move, dist}
-use Rattle.moves.specs.declared.Way.{Way}
 
 -- the move m from a leaves n bytes to b
 unfoldable pub leaves : ℕ → ℕ → ℕ → ℕ → Bool
@@ -26,20 +25,6 @@ pathOf (suc n) a b =
 
 unfoldable pub path : ℕ → ℕ → List ℕ
 path a b = pathOf (dist a b) a b
-
--- a way by value: its bytes stand at the start of three
-abbrev pub threeZeros : List ℕ
-threeZeros = 0 ∷ 0 ∷ 0 ∷ []
-
-abbrev pub wayWith : List ℕ → Way
-wayWith bs = record { bytes = sets threeZeros 0 bs; length = length bs }
-
--- no bytes where a or b is no place
-unfoldable pub wayOf : ℕ → ℕ → Way
-wayOf a b = cond (places a b) (wayWith (path a b)) (wayWith [])
-
-abbrev pub bytesOf : Way → List ℕ
-bytesOf w = take (w .length) (w .bytes)
 
 -- Against all move strings ---------------------------------------------------------------------------------------------------
 
@@ -67,8 +52,3 @@ pub record Shortest (a b : ℕ) (bs : List ℕ) : Type 0 where
   pub leads : leadsTo none a b bs ≡ true
   pub fewest : (cs : List ℕ) → leadsTo none a b cs ≡ true → length bs ≤ length cs
   pub smallest : (cs : List ℕ) → leadsTo none a b cs ≡ true → length cs ≡ length bs → atMost bs cs ≡ true
-
--- what `shortest` answers, and that it is the shortest
-pub record Found (a b : ℕ) (r : Way) : Type 0 where
-  pub answer : r ≡ wayOf a b
-  pub shortest : a < 40 → b < 40 → Shortest a b (bytesOf r)

@@ -1,22 +1,21 @@
 -- Laws of the list of flagged places and of what it costs to write them.
 use mathlib.Core.Path.{_≡_, refl, sym, ap, _∙_, subst}
-use mathlib.Core.Logic.{_≢_, _⊎_, inl, inr, ⊎-elim}
-use mathlib.Core.Bool.{Bool, true, false, cond}
-use mathlib.Core.List.{List, [], _∷_, _++_}
+use mathlib.Core.Logic.{_≢_, ⊎-elim}
+use mathlib.Core.Bool.{Bool, true, false}
+use mathlib.Core.List.{List, [], _∷_}
 use Prim.Native.Nat.{ℕ, zero, suc, _+_, _-_, _≤_, _<_}
-use native.Mathlib.Nat.{le-refl, add-zero, add-suc, suc-add}
+use native.Mathlib.Nat.{le-refl, add-zero}
 use native.Mathlib.Numerals.{add-one}
 use native.Mathlib.Omega.{arith}
-use lib.Dec.{eqb, ltb}
-use lib.ListN.{length, getD, length-append}
-use borrow.Author.Tests.{eqb-true, eqb-false, ne-eqb}
+use lib.Dec.{eqb}
+use lib.ListN.{length, length-append}
+use borrow.Author.Tests.{eqb-true, eqb-false, lt-ltb}
 use Rattle.moves.specs.Moves.{any, next, moves, move, dist}
-use Rattle.moves.specs.Ways.{path}
 use Rattle.planner.specs.Plan.{flagged, planOf}
-use Rattle.moves.proofs.Lists.{bool, clash}
+use Rattle.moves.proofs.Lists.{bool}
 use Rattle.moves.proofs.Moving.{dist-step, dist-most, dist-self, length-path}
 
--- flagged places ---------------------------------------------------------------------------------------------------------------
+-- Flagged places ---------------------------------------------------------------------------------------------------------------
 
 pub flagged-yes : (w : ℕ → Bool) (n i : ℕ) → w i ≡ true → flagged w (suc n) i ≡ i ∷ flagged w n (suc i)
 unfolding flagged
@@ -48,6 +47,8 @@ flagged-cons w v (suc n) i p h l nw wp vp o =
     rw (nw i (omega (arith, q)), o i q ∙ nw i (omega (arith, q))) (flagged-cons w v n (suc i) p (omega (arith, q)) (omega arith) nw wp vp o))
     (bool (eqb i p))
 
+-- Costs ------------------------------------------------------------------------------------------------------------------------
+
 -- what it costs to write the places xs in turn: D s x bytes to get ready for x in the state s, one to write, and E s to end
 unfoldable pub total : {S : Type 0} → (S → ℕ → ℕ) → (S → ℕ) → (ℕ → S) → S → List ℕ → ℕ
 total D E after s [] = E s
@@ -57,8 +58,6 @@ total D E after s (x ∷ xs) = D s x + 1 + total D E after (after x) xs
 abbrev pub cost : ℕ → ℕ → List ℕ → ℕ
 cost q p xs = total dist (λ s. dist s q) next p xs
 
--- costs ------------------------------------------------------------------------------------------------------------------------
-
 module _ {S : Type 0} (D : S → ℕ → ℕ) (E : S → ℕ) (after : ℕ → S) where
   -- a state from which every place is at most k further away
   pub shift : (k : ℕ) (s t : S) → ((x : ℕ) → D s x ≤ k + D t x) → E s ≤ k + E t → (xs : List ℕ) → total D E after s xs ≤ k + total D E after t xs
@@ -66,7 +65,7 @@ module _ {S : Type 0} (D : S → ℕ → ℕ) (E : S → ℕ) (after : ℕ → S
   shift k s t h e [] = e
   shift k s t h e (x ∷ xs) = omega (arith, h x)
 
-  -- a write at p, k bytes of switches before it: the first flagged place is written, or a write that was not needed is paid as a step
+  -- a write at p, with k bytes to get ready: the first flagged place is written, or a write that was not needed is paid as a step
   pub put-total : (k p : ℕ) (s t : S) (w v : ℕ → Bool) → p < 40 → D s p ≤ k → after p ≡ t
       → ((x : ℕ) → D s x ≤ k + 1 + D t x) → E s ≤ k + 1 + E t
       → ((j : ℕ) → j < suc p → v j ≡ false) → ((j : ℕ) → j ≢ p → v j ≡ w j)
@@ -80,39 +79,20 @@ module _ {S : Type 0} (D : S → ℕ → ℕ) (E : S → ℕ) (after : ℕ → S
       (shift (k + 1) s t far end (flagged v 40 0)))
       (bool (w p))
 
-  -- fewer flagged places never cost more
-  pub fewer : ((s : S) (y x : ℕ) → D s x ≤ D s y + 1 + D (after y) x) → ((s : S) (y : ℕ) → E s ≤ D s y + 1 + E (after y))
-      → (w v : ℕ → Bool) → ((j : ℕ) → w j ≡ true → v j ≡ true) → (n i : ℕ) (s : S)
-      → total D E after s (flagged w n i) ≤ total D E after s (flagged v n i)
-  unfolding flagged total
-  fewer sk se w v h zero i s = omega arith
-  fewer sk se w v h (suc n) i s =
-      ⊎-elim (λ e. rw (flagged-yes w n i e, flagged-yes v n i (h i e)) (omega (arith, fewer sk se w v h n (suc i) (after i))))
-      (λ e. rw (flagged-no w n i e)
-      (⊎-elim
-      (λ z. rw (flagged-yes v n i z) (omega (arith, fewer sk se w v h n (suc i) (after i), shift (D s i + 1) s (after i) (sk s i) (se s i) (flagged w n (suc i)))))
-      (λ z. rw (flagged-no v n i z) (fewer sk se w v h n (suc i) s))
-      (bool (v i))))
-      (bool (w i))
-
--- the one-font planner's costs
+-- with the planner's moves
 pub cost-move : (q m p : ℕ) (xs : List ℕ) → any (eqb m) moves ≡ true → cost q p xs ≤ 1 + cost q (move m p) xs
 cost-move q m p xs h = shift dist (λ s. dist s q) next 1 p (move m p) (λ x. dist-step m p x h) (dist-step m p q h) xs
 
 pub cost-jump : (q p r : ℕ) (xs : List ℕ) → cost q p xs ≤ 3 + cost q r xs
 cost-jump q p r xs = shift dist (λ s. dist s q) next 3 p r (λ x. omega (arith, dist-most p x)) (omega (arith, dist-most p q)) xs
 
-pub cost-next : (q p : ℕ) (xs : List ℕ) → cost q p xs ≤ 1 + cost q (next p) xs
-unfolding move
-cost-next q p xs = cost-move q 9 p xs refl
-
 pub cost-home : (q p : ℕ) (xs : List ℕ) → cost q p xs ≤ 1 + cost q 0 xs
 unfolding move
-cost-home q p xs = cost-move q 12 p xs refl
+cost-home q p xs = cost-move q 0x0C p xs refl
 
 pub next-up : (p : ℕ) → p < 39 → next p ≡ p + 1
 unfolding next
-next-up p h = rw (ne-eqb p 39 (λ e. omega arith))
+next-up p h = rw (lt-ltb p 39 h)
 
 -- d tabs
 along : (d p : ℕ) → p + d < 40 → dist p (p + d) ≤ d
@@ -121,7 +101,7 @@ along zero p h = rw (add-zero p, dist-self p) (omega arith)
 along (suc d) p h =
     let i : dist (next p) (p + suc d) ≤ d =
     rw (next-up p (omega arith)) (subst (λ (k : ℕ). dist (p + 1) k ≤ d) (omega arith) (along d (p + 1) (omega arith))) in
-    omega (arith, dist-step 9 p (p + suc d) refl)
+    omega (arith, dist-step 0x09 p (p + suc d) refl)
 
 pub dist-along : (p x : ℕ) → p ≤ x → x < 40 → dist p x + p ≤ x
 dist-along p x l h =

@@ -1,23 +1,21 @@
 -- Demand 3 over what a byte does: the plan of a condition that can be planned from delivers the picture.
 use mathlib.Core.Path.{_≡_, refl, sym, ap, _∙_}
-use mathlib.Core.Bool.{Bool, true, false}
-use mathlib.Core.List.{List, [], _∷_}
+use mathlib.Core.Bool.{true, false}
+use mathlib.Core.List.{List}
 use Prim.Native.Nat.{ℕ, _≤_, _<_}
 use lib.Dec.{eqb}
-use lib.ListN.{length, getD, replicate}
+use lib.ListN.{length, getD}
 use Rattle.condition.specs.declared.Condition.{Condition}
-use Rattle.condition.specs.declared.Pending.{Pending}
 use Rattle.condition.specs.Set.{withCells, withCursor, withPending}
 use Rattle.condition.specs.Bytes.{isChar, runOf}
 use Rattle.condition.specs.Steps.{readingOrder, wrong}
 use Rattle.moves.specs.Moves.{any, moves}
-use Rattle.moves.specs.Ways.{none}
 use Rattle.moves.proofs.Interpreter.{Ready, half}
 use Rattle.planner.specs.Plan.{plan, pictured, Delivers}
 use Rattle.planner.specs.Parts.{wrongIn, planIn}
-use Rattle.planner.proofs.Glass.{Glass, glass, run, ordered}
+use Rattle.planner.proofs.Glass.{ordered}
 use Rattle.planner.proofs.Picture.{Reaches, plan-most, plan-reaches, plan-fewest}
-use Rattle.planner.proofs.Seam.{embed, glassOf, order-is, run-is, ends}
+use Rattle.planner.proofs.Seam.{glassOf, order-is, run-is, ends}
 
 -- a condition that can be planned from, and codes that it can show
 pub record Plannable (c : Condition) (wanted : List ℕ) (asked : ℕ) : Type 0 where

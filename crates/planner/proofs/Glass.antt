@@ -2,7 +2,7 @@
 -- `chars` says which bytes are written as characters, and f is the selected font.
 use mathlib.Core.Bool.{Bool, true, false, cond, _&&_}
 use mathlib.Core.List.{List, [], _∷_}
-use Prim.Native.Nat.{ℕ, suc, _+_}
+use Prim.Native.Nat.{ℕ, suc}
 use lib.Dec.{eqb, leb}
 use lib.ListN.{set}
 use Rattle.moves.specs.Moves.{any, moves, move, next}

@@ -1,18 +1,18 @@
 -- The plan gives the picture and the cursor, and no reading-order string that does is shorter.
 use mathlib.Core.Path.{_≡_, refl, sym, ap, _∙_, subst}
-use mathlib.Core.Logic.{_≢_, _⊎_, inl, inr, ⊎-elim}
-use mathlib.Core.Bool.{Bool, true, false, _&&_, not, and-true}
+use mathlib.Core.Logic.{_≢_, ⊎-elim}
+use mathlib.Core.Bool.{Bool, true, false, not, and-true}
 use mathlib.Core.List.{List, [], _∷_, _++_, append-nil}
-use Prim.Native.Nat.{ℕ, zero, suc, _+_, _-_, _≤_, _<_}
+use Prim.Native.Nat.{ℕ, zero, suc, _+_, _≤_, _<_}
 use native.Mathlib.Nat.{le-of-eq}
 use native.Mathlib.Omega.{arith}
-use lib.Dec.{eqb, ltb, leb}
+use lib.Dec.{eqb, leb}
 use lib.ListN.{length, getD, set, length-set, replicate, length-replicate, getD-replicate}
 use lib.Seq.{getD-set-same, getD-set-other, ext-getD}
-use borrow.Author.Tests.{eqb-true, eqb-false, eq-eqb, leb-true, ltb-true, le-leb, lt-ltb, not-false}
+use borrow.Author.Tests.{eqb-true, eqb-false, eq-eqb, leb-true, le-leb, not-false}
 use Rattle.moves.specs.Moves.{any, next, moves, move, dist}
 use Rattle.moves.specs.Ways.{Half, none, escape, place, path, pathOf, firstByte}
-use Rattle.planner.proofs.Glass.{Glass, glass, stepAt, step, run, allowed, lowAt, whole, ordered}
+use Rattle.planner.proofs.Glass.{Glass, glass, stepAt, run, allowed, lowAt, whole, ordered}
 use Rattle.planner.specs.Plan.{flagged, planOf}
 use Rattle.planner.specs.Parts.{wrongIn, wrongsIn, planIn}
 use Rattle.moves.proofs.Lists.{bool, clash, and-left, and-right}
@@ -70,7 +70,7 @@ module _ (f : ℕ) (ws : List ℕ) (q : ℕ) where
   unfolding move
   put-cost p b cs fs lc lf hp r =
       put-total dist (λ s. dist s q) next 0 p p (next p) (wrongIn f ws cs fs) (wrongIn f ws (set cs p b) (set fs p f)) hp (le-of-eq (dist-self p)) refl
-      (λ x. dist-step 9 p x refl) (dist-step 9 p q refl) (λ j l. r j l (omega arith)) (λ j h. wrong-other f ws cs fs p b j h)
+      (λ x. dist-step 0x09 p x refl) (dist-step 0x09 p q refl) (λ j l. r j l (omega arith)) (λ j h. wrong-other f ws cs fs p b j h)
 
   -- what a string of steps shows of where it starts: the cells that it may no longer write are right, and it pays for all that are wrong
   pub record Paid (k : Half) (p lo : ℕ) (cs fs bs : List ℕ) : Type 0 where
@@ -174,8 +174,8 @@ module _ (f : ℕ) (ws : List ℕ) (q : ℕ) where
             (λ z. rw (flagged-no w n i z) (deliver n (suc i) p lo cs fs lc lf (omega arith) (omega arith) (up _ i h z)))
             (bool (w i))
 
--- The demand, over the machine. A string reaches the picture: read from g it is of the planner's steps in reading order, and it ends in the
--- wanted codes, all in the selected font, the cursor where asked, and nothing half received
+-- Demand 3 over the glass. A string reaches the picture: read from g it is of the planner's steps in reading order, and it ends in
+-- the wanted codes, all in the selected font, and the cursor where asked
 pub record Reaches (chars : ℕ → Bool) (f : ℕ) (ws : List ℕ) (q : ℕ) (g : Glass) (bs : List ℕ) : Type 0 where
   pub steps : ordered chars f g 0 bs ≡ true
   pub codes : run chars f g bs .codes ≡ ws

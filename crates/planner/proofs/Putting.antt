@@ -1,24 +1,19 @@
 -- What the loop that puts a plan keeps.
-use mathlib.Core.Path.{_≡_, refl, sym, ap, _∙_, subst}
-use mathlib.Core.Logic.{_⊎_, inl, inr, ⊎-elim}
+use mathlib.Core.Path.{_≡_, refl, sym, ap, _∙_}
 use mathlib.Core.Bool.{Bool, true, false}
 use mathlib.Core.List.{List, [], _∷_, _++_, append-assoc, append-nil}
-use Prim.Native.Nat.{ℕ, zero, suc, _+_, _-_, _≤_, _<_}
-use native.Mathlib.Nat.{zero-add, add-zero, add-suc, suc-add}
-use native.Mathlib.Numerals.{add-one, add-two}
+use Prim.Native.Nat.{ℕ, suc, _+_, _-_, _≤_, _<_}
+use native.Mathlib.Nat.{zero-add, add-zero}
+use native.Mathlib.Numerals.{add-one}
 use native.Mathlib.Omega.{arith}
-use lib.Dec.{eqb}
-use lib.ListN.{length, getD, set, take, drop, length-set, length-append, length-drop, drop-of-length-le}
-use lib.Seq.{sets, sets-eq, length-sets, take-all, drop-drop}
-use borrow.Author.Tests.{eq-eqb, ne-eqb}
+use lib.ListN.{length, getD, set, take, drop, length-append, length-drop, drop-of-length-le}
+use lib.Seq.{sets, sets-eq, length-sets, take-all, take-append-seam, drop-drop}
 use Rattle.row.specs.Row.{laid}
-use Rattle.moves.specs.Moves.{next, dist}
-use Rattle.moves.specs.declared.Way.{Way}
-use Rattle.moves.specs.Ways.{path, bytesOf, Found}
-use Rattle.planner.specs.Plan.{flagged, planOf}
+use Rattle.moves.specs.Moves.{next}
+use Rattle.moves.specs.Ways.{path}
+use Rattle.planner.specs.Plan.{flagged, planOf, atStart}
 use Rattle.planner.specs.Parts.{wrongIn, planIn}
-use Rattle.moves.proofs.Moving.{next-below}
-use Rattle.moves.proofs.Answers.{way-path}
+use Rattle.moves.proofs.Moving.{next-below, path-most}
 use Rattle.planner.proofs.Costs.{flagged-yes, flagged-no}
 use Rattle.planner.proofs.Picture.{plan-most}
 
@@ -36,13 +31,17 @@ put-part out part k bs h e =
     rw (e, t, take-all (length (drop k out)) bs (omega arith), drop-of-length-le (drop k out) {i = length out - k} (omega arith), append-nil, drop-drop (length bs) k out)
     (sym (sets-eq bs out k h ∙ append-assoc (take k out) bs _))
 
--- a way between two places, put there
-pub put-way-law : (out part : List ℕ) (k p q : ℕ) (w : Way) → p < 40 → q < 40 → Found p q w → k + length (path p q) ≤ length out
-    → part ≡ laid (bytesOf w) (take (length out - k) (drop k out))
-    → (k + w .length ≡ k + length (path p q)) × (take k out ++ (part ++ drop (length out - k) (drop k out)) ≡ sets out k (path p q))
-put-way-law out part k p q w hp hq f h e =
-    let d = way-path p q w hp hq f in
-    (ap (λ (n : ℕ). k + n) (d .0), put-part out part k (path p q) h (e ∙ ap (λ (bs : List ℕ). laid bs (take (length out - k) (drop k out))) (d .1)))
+-- the way between two places stands at the start of three bytes
+pub way-in : (p q n : ℕ) (bytes : List ℕ) → n ≡ length (path p q) → bytes ≡ sets (0 ∷ 0 ∷ 0 ∷ []) 0 (path p q) → take n bytes ≡ path p q
+way-in p q n bytes en eb =
+    rw (en, eb, sets-eq (path p q) (0 ∷ 0 ∷ 0 ∷ []) 0 (omega (arith, path-most p q))) (take-append-seam (path p q) _)
+
+-- and is put there
+pub put-way-law : (out part bytes : List ℕ) (k p q n : ℕ) → n ≡ length (path p q) → bytes ≡ sets (0 ∷ 0 ∷ 0 ∷ []) 0 (path p q)
+    → k + length (path p q) ≤ length out → part ≡ laid (take n bytes) (take (length out - k) (drop k out))
+    → (k + n ≡ k + length (path p q)) × (take k out ++ (part ++ drop (length out - k) (drop k out)) ≡ sets out k (path p q))
+put-way-law out part bytes k p q n en eb h e =
+    (ap (λ (m : ℕ). k + m) en, put-part out part k (path p q) h (e ∙ ap (λ (bs : List ℕ). laid bs (take (length out - k) (drop k out))) (way-in p q n bytes en eb)))
 
 -- one byte more behind what was put
 pub put-last : (out out′ : List ℕ) (k at w : ℕ) (xs : List ℕ) → (at ≡ k + length xs) × (out′ ≡ sets out k xs)
@@ -50,7 +49,7 @@ pub put-last : (out out′ : List ℕ) (k at w : ℕ) (xs : List ℕ) → (at �
 put-last out out′ k at w xs d = (omega (arith, d .0, length-append xs (w ∷ [])), rw (d .0, d .1) (sym (sets-append out k xs (w ∷ []))))
 
 -- bytes put at the start
-pub put-front : (out xs : List ℕ) → length xs ≤ length out → sets out 0 xs ≡ xs ++ drop (length xs) out
+pub put-front : (out xs : List ℕ) → length xs ≤ length out → sets out 0 xs ≡ atStart xs out
 put-front out xs h = sets-eq xs out 0 (omega arith) ∙ ap (λ (n : ℕ). xs ++ drop n out) (zero-add (length xs))
 
 -- the plan ----------------------------------------------------------------------------------------------------------------------
@@ -135,7 +134,7 @@ module _ {f : ℕ} {ws : List ℕ} {q : ℕ} {cs fs : List ℕ} {p₀ : ℕ} {ou
   end-room h r = omega (arith, c .count, c .long, ap length (rest-end h), plan-most f ws q p₀ cs fs)
 
   pub plan-end : (out′ : List ℕ) (at : ℕ) → 40 ≤ i → 44 ≤ length out₀ → (at ≡ k + length (path p q)) × (out′ ≡ sets out k (path p q))
-      → (at ≡ length (planIn f ws q p₀ cs fs)) × (out′ ≡ planIn f ws q p₀ cs fs ++ drop (length (planIn f ws q p₀ cs fs)) out₀)
+      → (at ≡ length (planIn f ws q p₀ cs fs)) × (out′ ≡ atStart (planIn f ws q p₀ cs fs) out₀)
   plan-end out′ at h r d = (
     omega (arith, d .0, c .count, ap length (rest-end h)),
     d .1 ∙ ap (λ (l : List ℕ). sets out k l) (sym (rest-end h)) ∙ sym (c .same) ∙ put-front out₀ (planIn f ws q p₀ cs fs) (omega (arith, plan-most f ws q p₀ cs fs)),

@@ -1,14 +1,14 @@
 -- What a refusal number says: 0 that the condition can be planned from, any other that nothing changes.
-use mathlib.Core.Path.{_≡_, refl, sym, ap, _∙_}
-use mathlib.Core.Logic.{_⊎_, ⊎-elim}
+use mathlib.Core.Path.{_≡_, refl, sym, _∙_}
+use mathlib.Core.Logic.{⊎-elim}
 use mathlib.Core.Bool.{Bool, true, false, cond, not, _&&_, _||_}
-use mathlib.Core.List.{List, [], _∷_, _++_}
+use mathlib.Core.List.{List, [], _∷_}
 use Prim.Native.Nat.{ℕ, zero, suc, _≤_, _<_}
 use native.Mathlib.Omega.{arith}
 use lib.Dec.{eqb, ltb, leb}
-use lib.ListN.{length, getD, take, drop}
+use lib.ListN.{length, getD}
 use lib.Seq.{take-append-seam}
-use borrow.Author.Tests.{eqb-true, eq-eqb, ne-eqb, ltb-true, ltb-false, leb-true, le-leb, not-false, not-true}
+use borrow.Author.Tests.{eqb-true, eq-eqb, ne-eqb, ltb-false, leb-true, le-leb, not-false}
 use Rattle.users.specs.declared.Users.{Users}
 use Rattle.users.specs.Users.{isUser}
 use Rattle.condition.specs.declared.Condition.{Condition}
@@ -19,7 +19,7 @@ use Rattle.moves.proofs.Lists.{bool, clash, and-left, and-right}
 use Rattle.moves.proofs.Moving.{each-move}
 use Rattle.moves.proofs.Interpreter.{ready}
 use Rattle.planner.specs.declared.Planned.{Planned}
-use Rattle.planner.specs.Plan.{plan, Delivers}
+use Rattle.planner.specs.Plan.{atStart, plan}
 use Rattle.planner.specs.Parts.{planIn}
 use Rattle.planner.specs.Answer.{onMove, lacks, someLacks, planRefusal, planBytes, planAnswer, planOut, Plans}
 use Rattle.planner.proofs.Demand.{Plannable, plan-in, delivers}
@@ -136,15 +136,20 @@ module _ (c : Condition) (wanted : List ℕ) (asked : ℕ) (out : List ℕ) wher
       record { answer = rw (b, e); output = rw b; delivers = λ h. absurd (z h) }
 
   pub taken-on : (after : List ℕ) (n : ℕ) → 0 ≡ planRefusal c wanted asked (length out) → length (c .codes) ≡ 40 → length (c .fonts) ≡ 40
-      → n ≡ length (planHere c wanted asked) → after ≡ planHere c wanted asked ++ drop (length (planHere c wanted asked)) out
+      → n ≡ length (planHere c wanted asked) → after ≡ atStart (planHere c wanted asked) out
       → Plans c wanted asked out after (planned 0 n)
   unfolding planAnswer planOut
   taken-on after n e lc lf hn ho =
       let b = bytes (sym e) in
       let en : n ≡ length (plan c wanted asked) = rw (plan-in c wanted asked) hn in
-      let eo : after ≡ plan c wanted asked ++ drop (length (plan c wanted asked)) out = rw (plan-in c wanted asked) ho in
+      let eo : after ≡ atStart (plan c wanted asked) out = rw (plan-in c wanted asked) ho in
       record {
         answer = rw (b, e, en);
         output = rw b eo;
         delivers = λ h. rw (en, eo, take-append-seam (plan c wanted asked) _) (delivers c wanted asked (accepted c wanted asked (length out) (sym e) .plannable lc lf));
       }
+
+-- two answers that the contract allows, and what they leave in the buffer, are the same
+pub one-plan : (c : Condition) (wanted : List ℕ) (asked : ℕ) (out a b : List ℕ) (r s : Planned) → Plans c wanted asked out a r → Plans c wanted asked out b s
+    → (r ≡ s) × (a ≡ b)
+one-plan c wanted asked out a b r s f g = (f .answer ∙ sym (g .answer), f .output ∙ sym (g .output))

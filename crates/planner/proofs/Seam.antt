@@ -1,9 +1,9 @@
 -- The glass is the module itself, where that is in mode 1 and reads the planner's steps.
 use mathlib.Core.Path.{_≡_, refl, sym, ap, _∙_}
-use mathlib.Core.Logic.{_⊎_, ⊎-elim}
+use mathlib.Core.Logic.{⊎-elim}
 use mathlib.Core.Bool.{Bool, true, false, cond, _&&_, _||_}
 use mathlib.Core.List.{List, [], _∷_}
-use Prim.Native.Nat.{ℕ, suc, _+_, _≤_, _<_}
+use Prim.Native.Nat.{ℕ, _<_}
 use native.Mathlib.Numerals.{add-one}
 use native.Mathlib.Omega.{arith}
 use lib.Dec.{eqb, leb}
@@ -11,13 +11,12 @@ use lib.ListN.{set}
 use borrow.Author.Tests.{eqb-true, eq-eqb, leb-true}
 use Rattle.users.specs.Users.{isUser}
 use Rattle.condition.specs.declared.Condition.{Condition}
-use Rattle.condition.specs.declared.Pending.the-variants.{Nothing}
 use Rattle.condition.specs.Condition.{idle}
-use Rattle.condition.specs.Set.{withCells, withCell, withCursor, withPending}
+use Rattle.condition.specs.Set.{withCells, withCursor, withPending}
 use Rattle.condition.specs.Bytes as B
 use Rattle.condition.specs.Bytes.{isChar, escapeOf, stepOf, runOf}
 use Rattle.condition.specs.Steps.{stepByte, lowAfter, inOrder, readingOrder}
-use Rattle.moves.specs.Moves.{any, moves, move, next}
+use Rattle.moves.specs.Moves.{any, moves, next}
 use Rattle.moves.specs.Ways.{Half, none, escape, place}
 use Rattle.moves.proofs.Lists.{bool, clash, and-left, and-right}
 use Rattle.moves.proofs.Moving.{next-below, move-below}

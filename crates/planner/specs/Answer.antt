@@ -1,16 +1,16 @@
 -- What the planner answers (document 01, Refusal numbers and their order).
 use Prim.Native.Nat.{ℕ}
 use mathlib.Core.Path.{_≡_}
-use mathlib.Core.List.{List, [], _∷_, _++_}
-use mathlib.Core.Bool.{Bool, true, false, cond, not, _&&_, _||_}
-use lib.ListN.{length, take, drop}
+use mathlib.Core.List.{List, [], _∷_}
+use mathlib.Core.Bool.{Bool, false, cond, not, _&&_, _||_}
+use lib.ListN.{length, take}
 use lib.Dec.{eqb, ltb, leb}
 use Rattle.users.specs.declared.Users.{Users}
 use Rattle.users.specs.Users.{isUser}
 use Rattle.condition.specs.declared.Condition.{Condition}
 use Rattle.condition.specs.Condition.{idle, wellFormed}
 use Rattle.planner.specs.declared.Planned.{Planned}
-use Rattle.planner.specs.Plan.{plan, Delivers}
+use Rattle.planner.specs.Plan.{atStart, plan, Delivers}
 
 -- 8: user character on 08h, 09h, 0Ah, 0Ch, 0Dh or 1Bh
 unfoldable pub onMove : Users → Bool
@@ -46,8 +46,7 @@ planAnswer c wanted asked out =
 
 -- an accepted plan changes only its own bytes at the buffer's start; a refused one nothing
 unfoldable pub planOut : Condition → List ℕ → ℕ → List ℕ → List ℕ
-planOut c wanted asked out =
-    planBytes c wanted asked (length out) ++ drop (length (planBytes c wanted asked (length out))) out
+planOut c wanted asked out = atStart (planBytes c wanted asked (length out)) out
 
 -- What `plan` promises of its answer r and of the output at exit: they are these for all inputs, and the bytes of an accepted
 -- plan, which stand at the output's start, deliver the picture

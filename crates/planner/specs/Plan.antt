@@ -3,7 +3,7 @@ use Prim.Native.Nat.{ℕ, zero, suc, _≤_}
 use mathlib.Core.Path.{_≡_}
 use mathlib.Core.List.{List, [], _∷_, _++_}
 use mathlib.Core.Bool.{Bool, true, cond}
-use lib.ListN.{length, getD, replicate}
+use lib.ListN.{length, getD, drop, replicate}
 use Rattle.condition.specs.declared.Condition.{Condition}
 use Rattle.condition.specs.Set.{withCells, withCursor}
 use Rattle.condition.specs.Bytes.{runOf}
@@ -24,6 +24,10 @@ planOf wanted asked p (x ∷ xs) = path p x ++ getD wanted x 0 ∷ planOf wanted
 
 unfoldable pub plan : Condition → List ℕ → ℕ → List ℕ
 plan c wanted asked = planOf wanted asked (c .cursor) (flagged (wrong c wanted) 40 0)
+
+-- bytes at a buffer's start, and the rest of it as it was
+abbrev pub atStart : List ℕ → List ℕ → List ℕ
+atStart bytes out = bytes ++ drop (length bytes) out
 
 -- the picture in the selected font and the cursor where asked; everything else as it was
 abbrev pub pictured : Condition → List ℕ → ℕ → Condition

@@ -5,11 +5,13 @@ ghost use mathlib.Core.List.{[], _∷_, _++_};
 ghost use mathlib.Core.Bool.{cond, _&&_, not};
 ghost use Prim.Native.Nat.{_+_, _<_, _≤_};
 ghost use lib.Dec.{eqb};
-ghost use lib.ListN.{length, drop};
+ghost use lib.ListN.{length};
 ghost use lib.Seq.{sets};
 ghost use Rattle.users.specs.Users.{isUser, usersIn};
-ghost use Rattle.moves.specs.Moves.{next};
-ghost use Rattle.moves.specs.Ways.{path};
+ghost use Rattle.row.specs.Row.{lineStart};
+ghost use Rattle.moves.specs.Moves.{left, down, move, dist, Numbers};
+ghost use Rattle.moves.specs.Ways.{leaves, firstByte, path};
+ghost use Rattle.planner.specs.Plan.{atStart};
 ghost use Rattle.planner.specs.Parts.{planIn};
 ghost use Rattle.planner.specs.Answer.{onMove, lacks, someLacks, planRefusal, Plans};
 
@@ -113,26 +115,124 @@ fn refusal(c: Condition, wanted: &[u8], asked: u32, room: usize) -> u8
     )
 }
 
-// The bytes of a plan -------------------------------------------------------------------------------------------------
+// The way from a place to another ---------------------------------------------------------------------------------------
 
-fn after(p: u8) -> u8
-    requires { ⌜ p < 40 ⌝ }
-    ensures { λ r. ⌜ r ≡ next p ⌝ }
+fn number(table: &[[u8; 40]; 40], from: u8, to: u8) -> u8
+    requires { ⌜ (from < 40) × (to < 40) × Numbers (now table) ⌝ }
+    ensures { λ r. ⌜ r ≡ dist from to ⌝ }
 {
-    if p == 39 {
-        return 0;
-    }
-    p + 1
+    let i = from as usize;
+    let j = to as usize;
+    table[i][j]
 }
 
+fn go_left(p: u8) -> u8
+    requires { ⌜ p < 40 ⌝ }
+    ensures { λ r. ⌜ r ≡ left p ⌝ }
+{
+    if p % 20 == 0 {
+        return p;
+    }
+    p - 1
+}
+
+fn go_down(p: u8) -> u8
+    requires { ⌜ p < 40 ⌝ }
+    ensures { λ r. ⌜ r ≡ down p ⌝ }
+{
+    if p < 20 {
+        return p + 20;
+    }
+    p - 20
+}
+
+fn go_start(p: u8) -> u8
+    ensures { λ r. ⌜ r ≡ lineStart p ⌝ }
+{
+    if p < 20 {
+        return 0;
+    }
+    20
+}
+
+fn go(m: u8, p: u8) -> u8
+    requires { ⌜ p < 40 ⌝ }
+    ensures { λ r. ⌜ r ≡ move m p ⌝ }
+{
+    match m {
+        0x08 => go_left(p),
+        0x09 => moves::next(p),
+        0x0A => go_down(p),
+        0x0C => 0,
+        _ => go_start(p),
+    }
+}
+
+fn leads(table: &[[u8; 40]; 40], m: u8, n: u8, from: u8, to: u8) -> bool
+    requires { ⌜ (from < 40) × (to < 40) × Numbers (now table) ⌝ }
+    ensures { λ r. ⌜ r ≡ leaves n from to m ⌝ }
+{
+    let p = go(m, from);
+    number(table, p, to) == n
+}
+
+// The smallest byte that leaves n bytes to go.
+fn first_byte(table: &[[u8; 40]; 40], n: u8, from: u8, to: u8) -> u8
+    requires { ⌜ (from < 40) × (to < 40) × Numbers (now table) ⌝ }
+    ensures { λ r. ⌜ r ≡ firstByte n from to ⌝ }
+{
+    if leads(table, 0x08, n, from, to) {
+        return 0x08;
+    }
+    if leads(table, 0x09, n, from, to) {
+        return 0x09;
+    }
+    if leads(table, 0x0A, n, from, to) {
+        return 0x0A;
+    }
+    if leads(table, 0x0C, n, from, to) {
+        return 0x0C;
+    }
+    if leads(table, 0x0D, n, from, to) {
+        return 0x0D;
+    }
+    0x1B
+}
+
+// Lays the way at the start of three bytes; answers its length.
+fn lay_way(table: &[[u8; 40]; 40], from: u8, to: u8, out: &mut [u8]) -> u8
+    requires { ⌜ (from < 40) × (to < 40) × Numbers (now table) × (length (now out) ≡ 3) ⌝ }
+    ensures { λ r. ⌜ (r ≡ length (path from to)) × (now (out .exit) ≡ sets (now (out .entry)) 0 (path from to)) ⌝ }
+{
+    let mut n = number(table, from, to);
+    let mut p = from;
+    let mut at: u8 = 0;
+    while 0 < n {
+        n -= 1;
+        let m = first_byte(table, n, p, to);
+        let i = at as usize;
+        out[i] = m;
+        if m == 0x1B {
+            out[i + 1] = 0x48;
+            out[i + 2] = to;
+            return at + 3;
+        }
+        at += 1;
+        p = go(m, p);
+    }
+    at
+}
+
+// The bytes of a plan -------------------------------------------------------------------------------------------------
+
 // Puts the way from p to q at k; answers the place behind it.
-fn put_way(out: &mut [u8], k: usize, p: u8, q: u8) -> usize
-    requires { ⌜ (p < 40) × (q < 40) × (k + length (path p q) ≤ length (now out)) ⌝ }
+fn put_way(table: &[[u8; 40]; 40], out: &mut [u8], k: usize, p: u8, q: u8) -> usize
+    requires { ⌜ (p < 40) × (q < 40) × (k + length (path p q) ≤ length (now out)) × Numbers (now table) ⌝ }
     ensures { λ r. ⌜ (r ≡ k + length (path p q)) × (now (out .exit) ≡ sets (now (out .entry)) k (path p q)) ⌝ }
 {
-    let w = moves::shortest(p, q);
-    let bytes = w.bytes;
-    let n = w.length as usize;
+    let mut bytes = [0u8; 3];
+    let length = lay_way(table, p, q, &mut bytes);
+    let n = length as usize;
     row::copy(&mut out[k..], &bytes[..n]);
     k + n
 }
@@ -144,17 +244,18 @@ fn differs(code: u8, font: u8, wanted: u8, selected: u8) -> bool
 }
 
 // Puts the way from p to i and the code there, at k; answers the place behind it.
-fn put_cell(out: &mut [u8], k: usize, p: u8, i: u8, code: u8) -> usize
-    requires { ⌜ (p < 40) × (i < 40) × (k + length (path p i ++ code ∷ []) ≤ length (now out)) ⌝ }
+fn put_cell(table: &[[u8; 40]; 40], out: &mut [u8], k: usize, p: u8, i: u8, code: u8) -> usize
+    requires { ⌜ (p < 40) × (i < 40) × (k + length (path p i ++ code ∷ []) ≤ length (now out)) × Numbers (now table) ⌝ }
     ensures { λ r. ⌜ (r ≡ k + length (path p i ++ code ∷ [])) × (now (out .exit) ≡ sets (now (out .entry)) k (path p i ++ code ∷ [])) ⌝ }
 {
-    let at = put_way(out, k, p, i);
+    let at = put_way(table, out, k, p, i);
     out[at] = code;
     at + 1
 }
 
 // Puts the plan at the start of out; answers its length.
 fn put_plan(
+    table: &[[u8; 40]; 40],
     codes: [u8; 40],
     fonts: [u8; 40],
     font: u8,
@@ -163,9 +264,9 @@ fn put_plan(
     asked: u8,
     out: &mut [u8],
 ) -> usize
-    requires { ⌜ (length (now wanted) ≡ 40) × (cursor < 40) × (asked < 40) × (44 ≤ length (now out)) ⌝ }
+    requires { ⌜ (length (now wanted) ≡ 40) × (cursor < 40) × (asked < 40) × (44 ≤ length (now out)) × Numbers (now table) ⌝ }
     ensures { λ r. ⌜ (r ≡ length (planIn font (now (wanted .entry)) asked cursor codes fonts))
-        × (now (out .exit) ≡ planIn font (now (wanted .entry)) asked cursor codes fonts ++ drop (length (planIn font (now (wanted .entry)) asked cursor codes fonts)) (now (out .entry))) ⌝ }
+        × (now (out .exit) ≡ atStart (planIn font (now (wanted .entry)) asked cursor codes fonts) (now (out .entry))) ⌝ }
 {
     let mut p = cursor;
     let mut k: usize = 0;
@@ -174,12 +275,12 @@ fn put_plan(
         let j = i as usize;
         let w = wanted[j];
         if differs(codes[j], fonts[j], w, font) {
-            k = put_cell(out, k, p, i, w);
-            p = after(i);
+            k = put_cell(table, out, k, p, i, w);
+            p = moves::next(i);
         }
         i += 1;
     }
-    put_way(out, k, p, asked)
+    put_way(table, out, k, p, asked)
 }
 
 // The bytes that give the wanted codes in the selected font and the asked cursor, at the start of out; or a refusal, and
@@ -197,7 +298,17 @@ pub fn plan(c: Condition, wanted: &[u8], asked: u32, out: &mut [u8]) -> Planned
     }
     let codes = c.codes;
     let fonts = c.fonts;
-    let k = put_plan(codes, fonts, c.font, wanted, c.cursor, asked as u8, out);
+    let table = moves::numbers();
+    let k = put_plan(
+        &table,
+        codes,
+        fonts,
+        c.font,
+        wanted,
+        c.cursor,
+        asked as u8,
+        out,
+    );
     Planned {
         refusal: 0,
         length: k as u8,

@@ -10,7 +10,7 @@ use Rattle.planner.proofs.put_cell.Statement.{statement}
 use Rattle.planner.proofs.put_cell.Tie as tie
 
 put-way-requires : tie.Need-put-way-requires
-put-way-requires c κs = (search needs, search needs, omega (arith, length-append (path (c .before .before .args .p) (c .before .before .args .i)) (c .before .before .args .code ∷ [])))
+put-way-requires c κs = (search needs, search needs, omega (arith, length-append (path (c .before .before .args .p) (c .before .before .args .i)) (c .before .before .args .code ∷ [])), c .before .before .pre .3)
 
 slice-write-out : tie.Need-slice-write-out
 slice-write-out c =

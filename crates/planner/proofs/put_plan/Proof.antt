@@ -1,10 +1,6 @@
-use mathlib.Core.Path.{_≡_, refl, subst, sym, ap, _∙_}
+use mathlib.Core.Path.{sym, _∙_}
 use mathlib.Core.Logic.{⊎-elim}
-use mathlib.Core.List.{List, [], _∷_}
-use Prim.Native.Nat.{ℕ, suc, _+_, _-_, _<_}
-use native.Mathlib.Omega.{arith}
-use lib.ListN.{length, set, length-set, length-append}
-use lib.Seq.{sets, length-sets}
+use Prim.Native.Nat.{_-_}
 use borrow.Author.Needs.{needs}
 use Rattle.planner.specs.Parts.{wrongIn}
 use Rattle.planner.proofs.Putting.{Planning, plan-start, plan-skip, plan-write, plan-room, end-room, plan-end, end-long}
@@ -12,10 +8,10 @@ use Rattle.planner.proofs.put_plan.Statement.{statement}
 use Rattle.planner.proofs.put_plan.Tie as tie
 
 abbrev Inv-loop : tie.InvT-loop
-Inv-loop font wanted cursor asked out₀ codes fonts p₀ k₀ i₀ out p k i = Planning font wanted asked codes fonts cursor out₀ out p k i
+Inv-loop table font wanted cursor asked out₀ codes fonts p₀ k₀ i₀ out p k i = Planning font wanted asked codes fonts cursor out₀ out p k i
 
 abbrev μ-loop : tie.MeasureT-loop
-μ-loop font wanted cursor asked out₀ codes fonts p₀ k₀ i₀ out p k i = 40 - i
+μ-loop table font wanted cursor asked out₀ codes fonts p₀ k₀ i₀ out p k i = 40 - i
 
 loop-holds : tie.Need-loop-holds Inv-loop μ-loop
 loop-holds c = plan-start _ _ _ _ _ _ _ (search needs)
@@ -39,10 +35,10 @@ put-cell-requires : tie.Need-put-cell-requires Inv-loop μ-loop
 unfolding wrongIn
 put-cell-requires c κs =
     let v = c .before .before .before .before .before .loop .inv in
-    (v .inside, search needs, plan-room v (search needs) (sym (c .before .before .differs .ensures) ∙ c .before .if1 .taken) (search needs))
+    (v .inside, search needs, plan-room v (search needs) (sym (c .before .before .differs .ensures) ∙ c .before .if1 .taken) (search needs), c .before .before .before .before .before .before .before .before .pre .4)
 
-after-requires : tie.Need-after-requires Inv-loop μ-loop
-after-requires c κs = search needs
+next-requires : tie.Need-next-requires Inv-loop μ-loop
+next-requires c κs = search needs
 
 add-i : tie.Need-add-i Inv-loop μ-loop
 add-i c = search needs
@@ -63,7 +59,7 @@ loop-again c =
 put-way-requires : tie.Need-put-way-requires Inv-loop μ-loop
 put-way-requires c κs =
     let v = c .before .before .loop .inv in
-    (v .inside, search needs, end-room v (search needs) (search needs))
+    (v .inside, search needs, end-room v (search needs) (search needs), c .before .before .before .before .before .pre .4)
 
 same-length : tie.Need-same-length Inv-loop μ-loop
 same-length c = end-long (c .before .before .before .before .before .loop .inv) _ (c .before .before .put-way .ensures .1)
@@ -84,7 +80,7 @@ put-plan-spec =
     array-read-differs-2
     differs-requires
     put-cell-requires
-    after-requires
+    next-requires
     add-i
     loop-less
     loop-again

@@ -1,14 +1,20 @@
-use mathlib.Core.Path.{_≡_, sym, ap, _∙_}
+use mathlib.Core.Path.{sym, ap, _∙_}
+use mathlib.Core.List.{[], _∷_}
 use native.Mathlib.Omega.{arith}
 use lib.ListN.{length}
-use Rattle.planner.proofs.Putting.{put-way-law}
-use Rattle.moves.proofs.Answers.{way-path, path-most}
+use lib.Seq.{length-sets}
+use Rattle.moves.specs.Ways.{path}
+use Rattle.moves.proofs.Moving.{path-most}
+use Rattle.planner.proofs.Putting.{way-in, put-way-law}
 use borrow.Author.Needs.{needs}
 use Rattle.planner.proofs.put_way.Statement.{statement}
 use Rattle.planner.proofs.put_way.Tie as tie
 
-shortest-requires : tie.Need-shortest-requires
-shortest-requires c κs = search needs
+slice-aggregate-lay-way : tie.Need-slice-aggregate-lay-way
+slice-aggregate-lay-way c = search needs
+
+lay-way-requires : tie.Need-lay-way-requires
+lay-way-requires c κs = (search needs, search needs, c .before .before .pre .3, search needs)
 
 cast-n : tie.Need-cast-n
 cast-n c = search needs
@@ -25,15 +31,14 @@ part-copy-end c = search needs
 array-share-prefix-bytes : tie.Need-array-share-prefix-bytes
 array-share-prefix-bytes c =
     let a = c .before .before .before .before .before .args in
-    let d = way-path (a .p) (a .q) _ (search needs) (search needs) (c .before .before .before .shortest .ensures) in
-    let l : length (c .before .before .before .shortest .result .bytes) ≡ 3 = search needs in
-    omega (arith, path-most (a .p) (a .q))
+    let w = c .before .before .lay-way in
+    omega (arith, w .ensures .0, path-most (a .p) (a .q), ap length (w .ensures .1) ∙ length-sets (0 ∷ 0 ∷ 0 ∷ []) 0 (path (a .p) (a .q)))
 
 slice-aggregate-copy : tie.Need-slice-aggregate-copy
 slice-aggregate-copy c =
     let a = c .before .before .before .before .before .before .args in
-    let d = way-path (a .p) (a .q) _ (search needs) (search needs) (c .before .before .before .before .shortest .ensures) in
-    d .0 ∙ sym (ap length (d .1))
+    let w = c .before .before .before .lay-way in
+    w .ensures .0 ∙ sym (ap length (way-in (a .p) (a .q) _ _ (w .ensures .0) (w .ensures .1)))
 
 copy-requires : tie.Need-copy-requires
 copy-requires c κs = search needs
@@ -46,14 +51,15 @@ same-length c = search needs
 
 returns : tie.Need-returns
 returns c =
-    put-way-law _ _ _ _ _ _ (search needs) (search needs) (c .before .before .before .before .before .before .before .shortest .ensures)
-    (search needs) (c .before .before .copy .ensures)
+    let w = c .before .before .before .before .before .before .lay-way in
+    put-way-law _ _ _ _ _ _ _ (w .ensures .0) (w .ensures .1) (search needs) (c .before .before .copy .ensures)
 
 pub put-way-spec : {M : Type 1} → statement M
 put-way-spec =
     tie.close
     (tie.spec
-    shortest-requires
+    slice-aggregate-lay-way
+    lay-way-requires
     cast-n
     sub-copy
     part-copy-start
