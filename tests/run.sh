@@ -1,6 +1,6 @@
 #!/bin/sh
 # Builds and runs one test: tests/run.sh self | show | host | plans | alike | c-host | example | dump
-# or the measure: tests/run.sh speed. See tests/README.md.
+# or a measure: tests/run.sh speed | costs. See tests/README.md.
 set -eu
 cd "$(dirname "$0")/.."
 . tests/tools.sh
@@ -25,11 +25,11 @@ c_program() { # NAME FILE
     $CC -std=c11 -pedantic -Wall -Wextra -O2 -Iinclude -static -o "$out/$1" "$2" target/staticlib/libsign.a
 }
 
-# count WORDS: the instructions that the program takes. By qemu's plug-in, valgrind or perf: the first that works.
-choose_counter() {
+# count PROGRAM WORDS: the instructions that the program takes. By qemu's plug-in, valgrind or perf: the first that works.
+choose_counter() { # PROGRAM WORDS, to try it on
     counter=
     if command -v qemu-x86_64 >/dev/null && gcc -shared -fPIC -O2 -o "$out/icount.so" tests/icount.c 2>/dev/null &&
-        qemu-x86_64 -plugin "$out/icount.so" "$out/speed" own printable 0 2>&1 | grep -q '^insns '; then
+        qemu-x86_64 -plugin "$out/icount.so" "$@" 2>&1 | grep -q '^insns '; then
         counter=qemu
     elif [ -z "$RUN" ]; then
         command -v valgrind >/dev/null || command -v perf >/dev/null || install_packages valgrind
@@ -39,15 +39,15 @@ choose_counter() {
 }
 count() {
     case $counter in
-    qemu) qemu-x86_64 -plugin "$out/icount.so" "$out/speed" "$@" 2>&1 >/dev/null | sed -n 's/^insns //p' ;;
-    valgrind) valgrind --tool=callgrind --callgrind-out-file=/dev/null "$out/speed" "$@" 2>&1 >/dev/null | sed -n 's/.*Collected : //p' ;;
-    perf) perf stat -x, -e instructions:u "$out/speed" "$@" 2>&1 >/dev/null | sed -n 's/,.*instructions.*//p' ;;
+    qemu) qemu-x86_64 -plugin "$out/icount.so" "$@" 2>&1 >/dev/null | sed -n 's/^insns //p' ;;
+    valgrind) valgrind --tool=callgrind --callgrind-out-file=/dev/null "$@" 2>&1 >/dev/null | sed -n 's/.*Collected : //p' ;;
+    perf) perf stat -x, -e instructions:u "$@" 2>&1 >/dev/null | sed -n 's/,.*instructions.*//p' ;;
     esac
 }
 # each WHO WHAT: instructions for each input byte, times 100
 each() {
-    four=$(count "$1" "$2" 4)
-    none=$(count "$1" "$2" 0)
+    four=$(count "$out/speed" "$1" "$2" 4)
+    none=$(count "$out/speed" "$1" "$2" 0)
     case $four$none in '' | *[!0-9]*) echo "speed: the count failed" >&2; exit 1 ;; esac
     echo $(((four - none) * 100 / 4 / 32768))
 }
@@ -92,7 +92,7 @@ dump)
 speed)
     linked speed
     $RUN "$out/speed" check
-    choose_counter
+    choose_counter "$out/speed" own printable 0
     echo "speed: instructions for each input byte, from power-up on 32,768 bytes, counted by $counter on $(uname -m), $($RUSTC --version)"
     for what in printable mixed; do
         own=$(each own "$what")
@@ -100,8 +100,19 @@ speed)
         echo "speed: $what: independent Rust $(decimal "$own"), sign_run $(decimal "$sign"), ratio $(decimal $((sign * 100 / own)))"
     done
     ;;
+costs)
+    c_program plan_cost tests/plan_cost.c
+    choose_counter "$out/plan_cost" 0 0
+    for kind in 0 1 2 3; do
+        ten=$(count "$out/plan_cost" "$kind" 10)
+        none=$(count "$out/plan_cost" "$kind" 0)
+        echo "costs: a plan of $($RUN "$out/plan_cost" "$kind" 1) bytes (kind $kind) takes $(((ten - none) / 10)) instructions"
+    done
+    echo "costs: libsign.a has $(size target/staticlib/libsign.a | awk 'NR > 1 { n += $1 } END { print n }') bytes of code and constants"
+    objdump -dr target/staticlib/libsign.a | python3 tests/stack.py
+    ;;
 *)
-    echo "usage: tests/run.sh self | show | host | plans | alike | c-host | example | dump | speed" >&2
+    echo "usage: tests/run.sh self | show | host | plans | alike | c-host | example | dump | speed | costs" >&2
     exit 2
     ;;
 esac
