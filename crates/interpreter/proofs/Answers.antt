@@ -2,12 +2,13 @@
 use Prim.Native.Nat.{ℕ, _+_, _≤_, _<_}
 use mathlib.Core.Path.{_≡_, refl, ap, sym, _∙_}
 use mathlib.Core.Bool.{Bool, true, false, _&&_}
-use mathlib.Core.List.{List, _++_}
+use mathlib.Core.List.{List, [], _∷_, _++_, flatten}
 use native.Mathlib.Omega.{arith}
 use lib.Dec.{eqb, leb}
 use lib.ListN.{length, getD, length-append}
-use native.Mathlib.Nat.{add-assoc}
-use borrow.Author.Tests.{ne-eqb, lt-ltb, le-ltb, leb-true, eqb-false}
+use native.Mathlib.Nat.{add-assoc, add-zero}
+use borrow.Author.Tests.{ne-eqb, lt-ltb, le-ltb, leb-true, eqb-true, eqb-false}
+use Rattle.users.proofs.Places.{by-test}
 use Rattle.condition.specs.declared.Condition.{Condition}
 use Rattle.condition.specs.Condition.{wellFormed}
 use Rattle.condition.specs.Bytes.{runOf}
@@ -21,7 +22,7 @@ use Rattle.block.proofs.PackedBack.{packed-back}
 use Rattle.interpreter.specs.declared.Tally.{Tally}
 use Rattle.interpreter.specs.declared.Ran.{Ran}
 use Rattle.interpreter.specs.InPlace.{Carried}
-use Rattle.interpreter.specs.Run.{limit, withinLimit, tallied, runRefusal, refusedOf, runAnswer, RunPromise, LentPromise}
+use Rattle.interpreter.specs.Run.{limit, withinLimit, tallied, runRefusal, refusedOf, acceptedOf, runAnswer, inTurn, RunPromise, LentPromise}
 
 -- each number of a tally within its limit
 pub record Within (t : Tally) : Type 0 where
@@ -71,7 +72,7 @@ module _ (c : Condition) (t : Tally) (bs : List ℕ) (r : Ran) where
       passes-limit m e = not-run c t bs r 5 e (rw (w, l, le-ltb 32768 (length bs) h, m)) (λ z. omega arith)
 
       pub accepted : withinLimit (tallied t c bs) ≡ true → Sized c → ((i : ℕ) → getD bs i 0 < 256)
-          → r ≡ record { refusal = 0; condition = runOf c bs; tally = tallied t c bs } → RunPromise c t bs r
+          → r ≡ acceptedOf c t bs → RunPromise c t bs r
       unfolding runAnswer runRefusal
       accepted m s b e =
           record {
@@ -98,7 +99,7 @@ pub ran : (t : Tally) (c k : Condition) (bs : List ℕ) (busy flickerless : ℕ)
       condition = k;
       tally = record { bytes = t .bytes + length bs; busy = t .busy + busy; flickerless = t .flickerless + flickerless };
     })
-    (record { refusal = 0; condition = runOf c bs; tally = tallied t c bs })
+    (acceptedOf c t bs)
 ran t c k bs busy flickerless g = rw (g .leaves, tallies t c k bs busy flickerless g)
 
 -- a run on the packed condition
@@ -121,21 +122,11 @@ one-lent-run c t bs r s x y p q =
 
 -- One run or several with the same bytes in turn end alike where no piece and no whole is refused ------------------------------
 
-accepted-is : (c : Condition) (t : Tally) (bs : List ℕ) (r : Ran) → RunPromise c t bs r → r .refusal ≡ 0
-    → r ≡ record { refusal = 0; condition = runOf c bs; tally = tallied t c bs }
-unfolding runAnswer
-accepted-is c t bs r p z = go (eqb (runRefusal c t bs) 0) refl
-  where
-    go : (b : Bool) → eqb (runRefusal c t bs) 0 ≡ b → r ≡ record { refusal = 0; condition = runOf c bs; tally = tallied t c bs }
-    go true e = p .answer ∙ rw e
-    go false e =
-        let f : r ≡ refusedOf (runRefusal c t bs) c t = p .answer ∙ rw e in
-        absurd (eqb-false (runRefusal c t bs) 0 e (sym (ap (λ (r : Ran). r .refusal) f) ∙ z))
-
-tallied-append : (t : Tally) (c : Condition) (xs ys : List ℕ) → tallied t c (xs ++ ys) ≡ tallied (tallied t c xs) (runOf c xs) ys
+accepted-append : (c : Condition) (t : Tally) (xs ys : List ℕ) → acceptedOf (runOf c xs) (tallied t c xs) ys ≡ acceptedOf c t (xs ++ ys)
 unfolding tallied
-tallied-append t c xs ys =
+accepted-append c t xs ys =
     rw (
+      run-append c xs ys,
       length-append xs ys,
       busy-append c xs ys,
       flickerless-append c xs ys,
@@ -144,9 +135,22 @@ tallied-append t c xs ys =
       ← add-assoc (t .flickerless) (flickerlessOf c xs) (flickerlessOf (runOf c xs) ys),
     )
 
-pub in-pieces : (c : Condition) (t : Tally) (xs ys : List ℕ) (r s w : Ran) → RunPromise c t xs r → RunPromise (r .condition) (r .tally) ys s
-    → RunPromise c t (xs ++ ys) w → r .refusal ≡ 0 → s .refusal ≡ 0 → w .refusal ≡ 0 → w ≡ s
-in-pieces c t xs ys r s w p q u zr zs zw =
-    let e = accepted-is c t xs r p zr in
-    accepted-is c t (xs ++ ys) w u zw ∙ rw (run-append, tallied-append)
-    (sym (accepted-is (r .condition) (r .tally) ys s q zs ∙ rw e))
+not-refused : (c : Condition) (t : Tally) (bs : List ℕ) → runAnswer c t bs .refusal ≡ 0 → runAnswer c t bs ≡ acceptedOf c t bs
+unfolding runAnswer
+not-refused c t bs =
+    by-test (λ (r : Ran). r .refusal ≡ 0 → r ≡ acceptedOf c t bs) (eqb (runRefusal c t bs) 0) (λ _ _. refl)
+    (λ e z. absurd (eqb-false (runRefusal c t bs) 0 e z))
+
+turns : (c : Condition) (t : Tally) (pieces : List (List ℕ)) → inTurn c t pieces .refusal ≡ 0 → inTurn c t pieces ≡ acceptedOf c t (flatten pieces)
+unfolding inTurn flatten runOf tallied busyOf flickerlessOf
+turns c t [] = λ _. simp add-zero
+turns c t (bs ∷ pieces) =
+    by-test (λ (r : Ran). r .refusal ≡ 0 → r ≡ acceptedOf c t (bs ++ flatten pieces)) (eqb (runAnswer c t bs .refusal) 0)
+    (λ e.
+    rw (not-refused c t bs (eqb-true (runAnswer c t bs .refusal) 0 e))
+    (λ z. turns (runOf c bs) (tallied t c bs) pieces z ∙ accepted-append c t bs (flatten pieces)))
+    (λ e z. absurd (eqb-false (runAnswer c t bs .refusal) 0 e z))
+
+pub in-pieces : (c : Condition) (t : Tally) (pieces : List (List ℕ)) (r : Ran) → RunPromise c t (flatten pieces) r
+    → r .refusal ≡ 0 → inTurn c t pieces .refusal ≡ 0 → r ≡ inTurn c t pieces
+in-pieces c t pieces r p z y = p .answer ∙ not-refused c t (flatten pieces) (rw (p .answer) at z) ∙ sym (turns c t pieces y)

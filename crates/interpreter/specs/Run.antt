@@ -1,7 +1,7 @@
 -- A run and the tally (document 01, Busy time and the tally; Refusal numbers and their order).
 use Prim.Native.Nat.{ℕ, _+_}
 use mathlib.Core.Path.{_≡_}
-use mathlib.Core.List.{List}
+use mathlib.Core.List.{List, [], _∷_}
 use mathlib.Core.Bool.{Bool, true, cond, not, _&&_}
 use lib.ListN.{length}
 use lib.Dec.{eqb, ltb, leb}
@@ -39,10 +39,17 @@ runRefusal c t bs =
 abbrev pub refusedOf : ℕ → Condition → Tally → Ran
 refusedOf n c t = record { refusal = n; condition = c; tally = t }
 
+abbrev pub acceptedOf : Condition → Tally → List ℕ → Ran
+acceptedOf c t bs = record { refusal = 0; condition = runOf c bs; tally = tallied t c bs }
+
 unfoldable pub runAnswer : Condition → Tally → List ℕ → Ran
-runAnswer c t bs =
-    cond (eqb (runRefusal c t bs) 0) (record { refusal = 0; condition = runOf c bs; tally = tallied t c bs })
-    (refusedOf (runRefusal c t bs) c t)
+runAnswer c t bs = cond (eqb (runRefusal c t bs) 0) (acceptedOf c t bs) (refusedOf (runRefusal c t bs) c t)
+
+-- several runs, with pieces in turn: each starts from what the one before left, and a refused one is the last
+unfoldable pub inTurn : Condition → Tally → List (List ℕ) → Ran
+inTurn c t [] = record { refusal = 0; condition = c; tally = t }
+inTurn c t (bs ∷ pieces) =
+    cond (eqb (runAnswer c t bs .refusal) 0) (inTurn (runAnswer c t bs .condition) (runAnswer c t bs .tally) pieces) (runAnswer c t bs)
 
 -- The answer r of a run. An accepted run leaves a well-formed condition.
 pub record RunPromise (c : Condition) (t : Tally) (bs : List ℕ) (r : Ran) : Type 0 where
