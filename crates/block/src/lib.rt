@@ -45,6 +45,9 @@ pub const HELD: usize = 16;
 
 pub const COUNT: usize = 20;
 
+// Unused bytes from here to CODES.
+pub const UNUSED: usize = 21;
+
 pub const CODES: usize = 24;
 
 pub const FONTS: usize = 64;
@@ -56,9 +59,6 @@ pub const PACKED: usize = 200;
 pub const CHECK: usize = 510;
 
 pub const LENGTH: usize = 512;
-
-// Unused bytes from here to CODES.
-const UNUSED: usize = 21;
 
 // Bytes 0 to 2.
 const FIRST: u8 = 0x56;

@@ -17,16 +17,18 @@ use crate::fields::set_luminance;
 use crate::fields::set_pending;
 use crate::fields::set_speed;
 use block::CODE;
+use block::CURSOR;
 use block::HOLDS;
 use block::KIND;
 use block::LINK;
+use block::UNUSED;
 
-// Bytes 3 to 20 as at power-up.
+// The bytes from the cursor's to the user count as at power-up.
 fn reset(s: &mut [u8], link: u8)
     requires { ⌜ 200 ≤ length (now s) ⌝ }
     ensures { λ _. ⌜ conditionIn (now (s .exit)) ≡ resetIn (conditionIn (now (s .entry))) link ⌝ }
 {
-    let head: [u8; 18] = [
+    let head: [u8; UNUSED - CURSOR] = [
         0,
         1,
         0,
@@ -46,7 +48,7 @@ fn reset(s: &mut [u8], link: u8)
         0,
         0,
     ];
-    row::copy(&mut s[3..21], &head);
+    row::copy(&mut s[CURSOR..UNUSED], &head);
 }
 
 // 49h.
