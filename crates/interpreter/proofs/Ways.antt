@@ -8,11 +8,12 @@ use lib.ListN.{getD}
 use borrow.Author.Tests.{eq-eqb, ne-eqb, le-leb, lt-leb}
 use Rattle.users.specs.Users.{isUser}
 use Rattle.condition.specs.declared.Condition.{Condition}
+use Rattle.condition.specs.declared.Pending.{Pending}
 use Rattle.condition.specs.declared.Pending.the-variants.{Nothing}
 use Rattle.condition.specs.Set.{withCursor, withCell}
 use Rattle.condition.specs.Bytes.{scrollOf, rightOf, pushOf, writeOf, isChar, controlOf, dataOf, stepAt, stepOf}
 use Rattle.condition.specs.Busy.{writeBusy, controlBusy, figureAt}
-use Rattle.block.specs.Layout.{conditionIn}
+use Rattle.block.specs.Layout.{conditionIn, pendingOf}
 use Rattle.interpreter.specs.InPlace.{Stepped}
 use Rattle.interpreter.proofs.Tests.{inner-column, edge-column, awaits-data, or-true}
 use Rattle.interpreter.proofs.InPlace.{cursor-at, mode-at, pending-at}
@@ -58,11 +59,16 @@ pub write-on : (s : List ℕ) (b : ℕ) → (getD s 4 0 ≡ 3 → ⊥) → right
 unfolding writeOf
 write-on s b m = rw (cursor-at s, mode-at s, ne-eqb _ _ m)
 
+-- a byte that continues what is half received
+pub half-step : (s : List ℕ) (b : ℕ) (p : Pending) → pendingOf (getD s 13 0) (getD s 14 0) (getD s 15 0) ≡ p
+    → stepAt p (conditionIn s) b ≡ stepOf (conditionIn s) b
+half-step s b p e = rw (pending-at s, e)
+
 -- a byte of user data
 pub data-step : (s : List ℕ) (b : ℕ) → 0 < getD s 13 0 → (getD s 13 0 ≡ 1 → ⊥) → (getD s 13 0 ≡ 2 → ⊥) → (getD s 13 0 ≡ 3 → ⊥)
     → (getD s 13 0 ≡ 4 → ⊥) → (getD s 13 0 ≡ 5 → ⊥) → dataOf (conditionIn s) (getD s 14 0) (getD s 15 0) b ≡ stepOf (conditionIn s) b
 unfolding stepAt
-data-step s b h h1 h2 h3 h4 h5 = rw (pending-at s, awaits-data (getD s 13 0) (getD s 14 0) (getD s 15 0) h h1 h2 h3 h4 h5)
+data-step s b h h1 h2 h3 h4 h5 = half-step s b _ (awaits-data (getD s 13 0) (getD s 14 0) (getD s 15 0) h h1 h2 h3 h4 h5)
 
 -- Which bytes are characters: 20h-FFh, and a user code
 module _ (c : Condition) (b : ℕ) where

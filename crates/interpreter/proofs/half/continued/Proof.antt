@@ -1,7 +1,7 @@
 use Rattle.condition.specs.Bytes.{stepAt}
-use Rattle.interpreter.proofs.InPlace.{pending-at}
+use Rattle.condition.specs.declared.Pending.the-variants.{Escape, Position, Luminance, Speed, UserCode}
 use mathlib.Core.Path.{_∙_}
-use Rattle.interpreter.proofs.Ways.{data-step}
+use Rattle.interpreter.proofs.Ways.{half-step, data-step}
 use borrow.Author.Needs.{needs}
 use Rattle.interpreter.proofs.half.continued.Statement.{statement}
 use Rattle.interpreter.proofs.half.continued.Tie as tie
@@ -44,35 +44,39 @@ same-length c = search needs
 
 returns : tie.Need-returns
 unfolding stepAt
-returns c = rw (c .before .before .escape .ensures, pending-at, c .before .before .before .before .match .keys1)
+returns c = c .before .before .escape .ensures ∙ half-step _ _ Escape (rw (c .before .before .before .before .match .keys1))
 
 same-length-2 : tie.Need-same-length-2
 same-length-2 c = search needs
 
 returns-2 : tie.Need-returns-2
 unfolding stepAt
-returns-2 c = rw (c .before .before .position .ensures, pending-at, c .before .before .before .before .match .keys2)
+returns-2 c = c .before .before .position .ensures ∙ half-step _ _ Position (rw (c .before .before .before .before .match .keys2))
 
 same-length-3 : tie.Need-same-length-3
 same-length-3 c = search needs
 
 returns-3 : tie.Need-returns-3
 unfolding stepAt
-returns-3 c = rw (c .before .before .set-luminance .ensures, c .before .before .before .before .before .before .set-pending .ensures, pending-at, c .before .before .before .before .before .before .before .before .match .keys3)
+returns-3 c =
+    c .before .before .set-luminance .ensures ∙ rw (c .before .before .before .before .before .before .set-pending .ensures)
+    (half-step _ _ Luminance (rw (c .before .before .before .before .before .before .before .before .match .keys3)))
 
 same-length-4 : tie.Need-same-length-4
 same-length-4 c = search needs
 
 returns-4 : tie.Need-returns-4
 unfolding stepAt
-returns-4 c = rw (c .before .before .set-speed .ensures, c .before .before .before .before .before .before .set-pending2 .ensures, pending-at, c .before .before .before .before .before .before .before .before .match .keys4)
+returns-4 c =
+    c .before .before .set-speed .ensures ∙ rw (c .before .before .before .before .before .before .set-pending2 .ensures)
+    (half-step _ _ Speed (rw (c .before .before .before .before .before .before .before .before .match .keys4)))
 
 same-length-5 : tie.Need-same-length-5
 same-length-5 c = search needs
 
 returns-5 : tie.Need-returns-5
 unfolding stepAt
-returns-5 c = rw (c .before .before .set-pending3 .ensures, pending-at, c .before .before .before .before .match .keys5)
+returns-5 c = c .before .before .set-pending3 .ensures ∙ half-step _ _ UserCode (rw (c .before .before .before .before .match .keys5))
 
 same-length-6 : tie.Need-same-length-6
 same-length-6 c = search needs
