@@ -37,6 +37,12 @@ pub defines : (us : List ℕ) (count code : ℕ) (held : List ℕ) (last : ℕ) 
 unfolding defineIn defineOf
 defines us count code held last f h e = rw (eq-eqb (length us) 96 h, e)
 
+-- any two answers that the contract of `define` allows, with the bytes that they leave, are equal
+pub one-define : (us : List ℕ) (count code : ℕ) (held : List ℕ) (last : ℕ) (x y : List ℕ) (r s : ℕ)
+    → usersIn x r ≡ defineIn us count code held last → usersIn y s ≡ defineIn us count code held last → (x ≡ y) × (r ≡ s)
+one-define us count code held last x y r s p q =
+    (ap (λ (u : Users). u .bytes) (p ∙ sym q), ap (λ (u : Users). u .count) (p ∙ sym q))
+
 -- there is no sixth byte
 pub byte-past : (d : Character) (i : ℕ) → 5 ≤ i → 0 ≡ byteOf d i
 byte-past d i h = sym (List·getD-eq-default (d .d1 ∷ d .d2 ∷ d .d3 ∷ d .d4 ∷ d .d5 ∷ []) 0 h)
