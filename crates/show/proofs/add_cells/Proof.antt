@@ -1,22 +1,17 @@
 use mathlib.Core.Path.{sym}
-use lib.ListN.{length-take, length-drop}
 use lib.Seq.{length-take-le}
 use Rattle.condition.proofs.Places.{tail-part}
-use native.Mathlib.Omega.{arith}
-use Rattle.show.proofs.Laws.{both-added}
+use Rattle.lines.proofs.Laws.{both-added}
 use Rattle.show.specs.Report.{cellLines}
 use borrow.Author.Needs.{needs}
 use Rattle.show.proofs.add_cells.Statement.{statement}
 use Rattle.show.proofs.add_cells.Tie as tie
-use Rattle.show.proofs.add_cells.Reads as reads
-use Rattle.show.proofs.add_cells.Lts as lts
-use Rattle.show.proofs.add_codes.Reads as add-codes-reads
 
 slice-aggregate-add-codes : tie.Need-slice-aggregate-add-codes
 slice-aggregate-add-codes c = sym (length-take-le 20 (c .before .before .before .before .args .codes .now) (search needs))
 
 add-codes-requires : tie.Need-add-codes-requires
-add-codes-requires c κs = omega (arith, length-take 20 (c .before .before .before .before .args .codes .now))
+add-codes-requires c κs = search needs
 
 sub-add-codes : tie.Need-sub-add-codes
 sub-add-codes c = search needs
@@ -28,10 +23,7 @@ part-add-codes-end : tie.Need-part-add-codes-end
 part-add-codes-end c = search needs
 
 add-codes-requires-2 : tie.Need-add-codes-requires-2
-add-codes-requires-2 c κs =
-    let s = c .before .before .before .before .before .before .before .before .before .args .codes .now in
-    let a = c .before .before .before .before .add-codes .ensures .1 in
-    rw (tail-part s 20) (omega (arith, a, length-take 20 s, length-drop 20 s))
+add-codes-requires-2 c κs = search needs
 
 same-length : tie.Need-same-length
 same-length c = search needs
@@ -40,9 +32,7 @@ returns : tie.Need-returns
 unfolding cellLines
 returns c =
     let s = c .before .before .before .before .before .before .before .before .before .before .before .before .args .codes .now in
-    let a = c .before .before .before .before .before .before .before .add-codes .ensures in
-    let b = rw (tail-part s 20) at (c .before .before .add-codes2 .ensures) in
-    (both-added (a .0) (b .0), omega (arith, a .1, b .1, length-take 20 s, length-drop 20 s))
+    both-added (c .before .before .before .before .before .before .before .add-codes .ensures) (rw (tail-part s 20) at (c .before .before .add-codes2 .ensures))
 
 pub add-cells-spec : {M : Type 1} → statement M
 add-cells-spec =

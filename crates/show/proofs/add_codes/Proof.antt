@@ -1,33 +1,32 @@
-use Prim.Native.Nat.{_+_, _-_, _*_, _≤_}
-use mathlib.Core.Path.{_≡_, refl, sym, ap, _∙_}
-use mathlib.Core.List.{_++_}
+use Prim.Native.Nat.{_≤_, _-_}
+use mathlib.Core.Path.{_≡_}
 use native.Mathlib.Omega.{arith}
-use lib.ListN.{length, take, drop, getD}
-use Rattle.show.specs.Report.{Added, hexLine}
-use Rattle.show.proofs.Laws.{codes-turn, codes-done}
+use lib.ListN.{length}
+use Rattle.lines.specs.Lines.{Added, each}
+use Rattle.lines.proofs.Laws.{none-added, both-added, each-added, same-added}
+use Rattle.show.specs.Report.{codeText, hexLine}
 use borrow.Author.Needs.{needs}
 use Rattle.show.proofs.add_codes.Statement.{statement}
 use Rattle.show.proofs.add_codes.Tie as tie
 
 abbrev Inv-loop : tie.InvT-loop
-Inv-loop out₀ k codes at₀ i₀ out at i =
-    (i ≤ length codes) × (at ≡ k + 3 * i) × (take at out ++ hexLine (drop i codes) ≡ take k out₀ ++ hexLine codes)
-    × (length out ≡ length out₀) × (k + 3 * length codes ≤ length out₀)
+Inv-loop out₀ k codes at₀ i₀ t8 out at i = (i ≤ length codes) × Added out₀ k (each (codeText codes) i) out at
 
 abbrev μ-loop : tie.MeasureT-loop
-μ-loop out₀ k codes at₀ i₀ out at i = length codes - i
+μ-loop out₀ k codes at₀ i₀ t8 out at i = length codes - i
 
 loop-holds : tie.Need-loop-holds Inv-loop μ-loop
-loop-holds c = (omega arith, omega arith, refl, refl, search needs)
+unfolding each
+loop-holds c = (omega arith, none-added _ _)
 
-shared-slice-read-b : tie.Need-shared-slice-read-b Inv-loop μ-loop
-shared-slice-read-b c = omega arith
+slice-aggregate-add-hex : tie.Need-slice-aggregate-add-hex Inv-loop μ-loop
+slice-aggregate-add-hex c = search needs
 
-hex-digit-requires : tie.Need-hex-digit-requires Inv-loop μ-loop
-hex-digit-requires c κs = omega (arith, c .shared-slice-known2 .given (c .before .before .loop .i))
+shared-slice-read-add-hex : tie.Need-shared-slice-read-add-hex Inv-loop μ-loop
+shared-slice-read-add-hex c = omega arith
 
-hex-digit-requires-2 : tie.Need-hex-digit-requires-2 Inv-loop μ-loop
-hex-digit-requires-2 c κs = search needs
+add-hex-requires : tie.Need-add-hex-requires Inv-loop μ-loop
+add-hex-requires c κs = search needs
 
 separator-requires : tie.Need-separator-requires Inv-loop μ-loop
 separator-requires c κs = search needs
@@ -36,34 +35,30 @@ slice-aggregate-add-word : tie.Need-slice-aggregate-add-word Inv-loop μ-loop
 slice-aggregate-add-word c = search needs
 
 add-word-requires : tie.Need-add-word-requires Inv-loop μ-loop
-add-word-requires c κs = omega (arith, c .before .before .before .before .before .before .before .loop .inv)
+add-word-requires c κs = search needs
 
 add-i : tie.Need-add-i Inv-loop μ-loop
-add-i c = omega (arith, c .before .before .before .before .before .before .before .before .before .loop-test .taken)
+add-i c = search needs
 
 loop-less : tie.Need-loop-less Inv-loop μ-loop
-loop-less c = omega (arith, c .before .before .before .before .before .before .before .before .before .loop-test .taken)
+loop-less c = search needs
 
 loop-again : tie.Need-loop-again Inv-loop μ-loop
+unfolding codeText
 loop-again c =
-    let l = c .before .before .before .before .before .before .before .before .before .before .loop in
-    let s = c .before .before .before .before .before .before .before .before .before .before .before .before .before .args .codes .now in
-    let w = c .before .before .add-word in (
-      omega (arith, c .before .before .before .before .before .before .before .before .before .loop-test .taken),
-      omega (arith, w .ensures .next, l .inv .1),
-      codes-turn s (l .out) (w .last .0) (l .i) (l .at) (w .result) _ (c .before .before .before .before .before .before .before .before .before .loop-test .taken) (l .inv .2) (w .ensures)
-          (c .before .before .before .before .before .before .before .hex-digit .ensures) (c .before .before .before .before .before .before .hex-digit2 .ensures) (c .before .before .before .before .before .separator .ensures),
-      search needs,
-      l .inv .4,
-    )
+    let l = c .before .before .before .before .before .before .before .before .before .before .before .before .before .loop in
+    let w = rw (c .before .before .before .before .before .separator .ensures) at (c .before .before .add-word .ensures) in
+    (omega (arith, c .before .before .before .before .before .before .before .before .before .before .before .before .loop-test .taken), each-added _ (l .i) (l .inv .1) (both-added (c .before .before .before .before .before .before .before .before .add-hex .ensures) w))
 
 same-length : tie.Need-same-length Inv-loop μ-loop
-same-length c = search needs
+same-length c = same-added (c .before .loop .inv .1)
 
 returns : tie.Need-returns Inv-loop μ-loop
+unfolding hexLine
 returns c =
     let l = c .before .loop in
-    (codes-done _ _ _ _ _ (l .at) (omega arith) (l .inv .1) (l .inv .2), omega arith)
+    let e : l .i ≡ length (c .before .before .before .before .args .codes .now) = omega arith in
+    rw e at (l .inv .1)
 
 pub add-codes-spec : {M : Type 1} → statement M
 add-codes-spec =
@@ -72,9 +67,9 @@ add-codes-spec =
     Inv-loop
     μ-loop
     loop-holds
-    shared-slice-read-b
-    hex-digit-requires
-    hex-digit-requires-2
+    slice-aggregate-add-hex
+    shared-slice-read-add-hex
+    add-hex-requires
     separator-requires
     slice-aggregate-add-word
     add-word-requires

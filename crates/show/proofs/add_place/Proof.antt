@@ -1,50 +1,65 @@
-use native.Mathlib.Omega.{arith}
+use Rattle.lines.proofs.Laws.{both-added}
 use Rattle.show.specs.Report.{placeLine}
 use borrow.Author.Needs.{needs}
 use Rattle.show.proofs.add_place.Statement.{statement}
 use Rattle.show.proofs.add_place.Tie as tie
-use Rattle.show.proofs.add_place.Reads as reads
-use Rattle.show.proofs.add_place.Lts as lts
-use Rattle.show.proofs.add_line.Reads as add-line-reads
 
-slice-aggregate-add-line : tie.Need-slice-aggregate-add-line
-slice-aggregate-add-line c = search needs
+slice-aggregate-add-number : tie.Need-slice-aggregate-add-number
+slice-aggregate-add-number c = search needs
 
-cast-add-line : tie.Need-cast-add-line
-cast-add-line c = search needs
+cast-add-number : tie.Need-cast-add-number
+cast-add-number c = search needs
 
-slice-aggregate-add-line-2 : tie.Need-slice-aggregate-add-line-2
-slice-aggregate-add-line-2 c = search needs
+add-number-requires : tie.Need-add-number-requires
+add-number-requires c κs = search needs
 
-cast-add-line-2 : tie.Need-cast-add-line-2
-cast-add-line-2 c = search needs
+slice-aggregate-add-number-2 : tie.Need-slice-aggregate-add-number-2
+slice-aggregate-add-number-2 c = search needs
 
-slice-aggregate-add-line-3 : tie.Need-slice-aggregate-add-line-3
-slice-aggregate-add-line-3 c = search needs
+cast-add-number-2 : tie.Need-cast-add-number-2
+cast-add-number-2 c = search needs
 
-cast-add-line-3 : tie.Need-cast-add-line-3
-cast-add-line-3 c = search needs
+add-number-requires-2 : tie.Need-add-number-requires-2
+add-number-requires-2 c κs = search needs
 
-add-line-requires : tie.Need-add-line-requires
-add-line-requires c κs = search needs
+slice-aggregate-add-number-3 : tie.Need-slice-aggregate-add-number-3
+slice-aggregate-add-number-3 c = search needs
+
+cast-add-number-3 : tie.Need-cast-add-number-3
+cast-add-number-3 c = search needs
+
+add-number-requires-3 : tie.Need-add-number-requires-3
+add-number-requires-3 c κs = search needs
+
+slice-aggregate-add-word : tie.Need-slice-aggregate-add-word
+slice-aggregate-add-word c = search needs
+
+add-word-requires : tie.Need-add-word-requires
+add-word-requires c κs = search needs
 
 same-length : tie.Need-same-length
 same-length c = search needs
 
 returns : tie.Need-returns
 unfolding placeLine
-returns c = let e = c .before .before .add-line .ensures in (e .0, omega (arith, e .1))
+returns c =
+    both-added (c .before .before .before .before .before .before .before .before .before .before .before .before .before .before .before .before .before .before .before .add-number .ensures) (both-added (c .before .before .before .before .before .before .before .before .before .before .before .before .before .add-number2 .ensures)
+    (both-added (c .before .before .before .before .before .before .before .add-number3 .ensures) (c .before .before .add-word .ensures)))
 
 pub add-place-spec : {M : Type 1} → statement M
 add-place-spec =
     tie.close
     (tie.spec
-    slice-aggregate-add-line
-    cast-add-line
-    slice-aggregate-add-line-2
-    cast-add-line-2
-    slice-aggregate-add-line-3
-    cast-add-line-3
-    add-line-requires
+    slice-aggregate-add-number
+    cast-add-number
+    add-number-requires
+    slice-aggregate-add-number-2
+    cast-add-number-2
+    add-number-requires-2
+    slice-aggregate-add-number-3
+    cast-add-number-3
+    add-number-requires-3
+    slice-aggregate-add-word
+    add-word-requires
     same-length
     returns)

@@ -1,10 +1,8 @@
-use Rattle.show.specs.Report.{hexDigit}
+use Rattle.lines.specs.Lines.{hexDigit}
 use borrow.Author.Tests.{le-ltb, lt-ltb}
 use borrow.Author.Needs.{needs}
-use Rattle.show.proofs.hex_digit.Statement.{statement}
-use Rattle.show.proofs.hex_digit.Tie as tie
-use Rattle.show.proofs.hex_digit.Reads as reads
-use Rattle.show.proofs.hex_digit.Lts as lts
+use Rattle.lines.proofs.hex_digit.Statement.{statement}
+use Rattle.lines.proofs.hex_digit.Tie as tie
 
 add-result : tie.Need-add-result
 add-result c = search needs

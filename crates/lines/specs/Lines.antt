@@ -1,0 +1,64 @@
+-- Lines of text in a lent buffer: words, numbers, hex, and what ends a program's print of a run.
+use Prim.Native.Nat.{ℕ, zero, suc, _+_, _-_, _/_, _%_, min}
+use mathlib.Core.Path.{_≡_}
+use mathlib.Core.Bool.{Bool, true, false, cond}
+use mathlib.Core.List.{List, [], _∷_, _++_}
+use lib.ListN.{length, take, drop}
+use lib.Dec.{eqb, ltb}
+use Rattle.row.specs.Row.{laid}
+use Rattle.interpreter.specs.declared.Tally.{Tally}
+use Rattle.interpreter.specs.declared.Ran.{Ran}
+
+-- the text x was added at k, as far as there is room, and r is the place after it
+pub record Added (before : List ℕ) (k : ℕ) (x : List ℕ) (after : List ℕ) (r : ℕ) : Type 0 where
+  pub next : r ≡ k + min (length x) (length before - k)
+  pub text : after ≡ take k before ++ laid x (drop k before)
+
+-- the texts f 0 to f (n - 1), one after the other
+unfoldable pub each : (ℕ → List ℕ) → ℕ → List ℕ
+each f zero = []
+each f (suc n) = each f n ++ f n
+
+-- upper-case hex: 0 to 9, A to F
+unfoldable pub hexDigit : ℕ → ℕ
+hexDigit n = cond (ltb n 10) (48 + n) (55 + n)
+
+-- a byte in two digits
+abbrev pub hexOf : ℕ → List ℕ
+hexOf b = hexDigit (b / 16) ∷ hexDigit (b % 16) ∷ []
+
+-- a number in decimal, of at most f digits
+unfoldable pub decimalIn : ℕ → ℕ → List ℕ
+decimalIn zero n = []
+decimalIn (suc f) n = cond (ltb n 10) ((48 + n) ∷ []) (decimalIn f (n / 10) ++ ((48 + n % 10) ∷ []))
+
+unfoldable pub decimalOf : ℕ → List ℕ
+decimalOf n = decimalIn 20 n
+
+-- a word, and a number in decimal
+abbrev pub numbered : List ℕ → ℕ → List ℕ
+numbered word n = word ++ decimalOf n
+
+abbrev pub newLine : List ℕ
+newLine = 0x0A ∷ []
+
+-- the tally: `bytes B busy T flickerless F`
+unfoldable pub tallyLine : Tally → List ℕ
+tallyLine t =
+    numbered (98 ∷ 121 ∷ 116 ∷ 101 ∷ 115 ∷ 32 ∷ []) (t .bytes) ++ (numbered (32 ∷ 98 ∷ 117 ∷ 115 ∷ 121 ∷ 32 ∷ []) (t .busy)
+    ++ (numbered (32 ∷ 102 ∷ 108 ∷ 105 ∷ 99 ∷ 107 ∷ 101 ∷ 114 ∷ 108 ∷ 101 ∷ 115 ∷ 115 ∷ 32 ∷ []) (t .flickerless) ++ newLine))
+
+-- `refused N`
+unfoldable pub refusedLine : ℕ → List ℕ
+refusedLine n = numbered (114 ∷ 101 ∷ 102 ∷ 117 ∷ 115 ∷ 101 ∷ 100 ∷ 32 ∷ []) n ++ newLine
+
+-- a program's print of a run ends with the tally, after what stands up to k; a refused run prints its refusal alone
+unfoldable pub endStart : Ran → ℕ → ℕ
+endStart r k = cond (eqb (r .refusal) 0) k 0
+
+unfoldable pub endOf : Ran → List ℕ
+endOf r = cond (eqb (r .refusal) 0) (tallyLine (r .tally)) (refusedLine (r .refusal))
+
+-- what is printed of a run: a body and the tally, or `refused N` alone
+unfoldable pub printOf : List ℕ → Ran → List ℕ
+printOf body r = cond (eqb (r .refusal) 0) (body ++ tallyLine (r .tally)) (refusedLine (r .refusal))
