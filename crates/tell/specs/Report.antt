@@ -1,0 +1,56 @@
+-- What `tell` prints: what each cell shows, each user character with its dots, and the tally.
+use Prim.Native.Nat.{ℕ, _+_, _*_, min}
+use mathlib.Core.List.{List, [], _∷_, _++_}
+use lib.ListN.{getD}
+use Rattle.users.specs.declared.Users.{Users}
+use Rattle.condition.specs.declared.Condition.{Condition}
+use Rattle.condition.specs.declared.Shows.{Shows}
+use Rattle.condition.specs.declared.Shows.the-variants.{Blank, User, Euro, BuiltIn}
+use Rattle.condition.specs.Condition.{powerUp}
+use Rattle.condition.specs.Answers.{viewAnswer, dotAnswer, underlineAnswer, litAnswer}
+use Rattle.interpreter.specs.declared.Tally.{Tally}
+use Rattle.interpreter.specs.declared.Ran.{Ran}
+use Rattle.interpreter.specs.Run.{runAnswer}
+use Rattle.lines.specs.Lines.{each, hexOf, decimalOf, numbered, newLine, printOf}
+
+-- what a cell shows: ` blank`, ` user HH`, ` euro` or ` code HH font F`
+unfoldable pub showsText : Shows → List ℕ
+showsText Blank = 32 ∷ 98 ∷ 108 ∷ 97 ∷ 110 ∷ 107 ∷ []
+showsText (User x) = (32 ∷ 117 ∷ 115 ∷ 101 ∷ 114 ∷ 32 ∷ []) ++ hexOf x
+showsText Euro = 32 ∷ 101 ∷ 117 ∷ 114 ∷ 111 ∷ []
+showsText (BuiltIn x f) =
+    ((32 ∷ 99 ∷ 111 ∷ 100 ∷ 101 ∷ 32 ∷ []) ++ hexOf x) ++ numbered (32 ∷ 102 ∷ 111 ∷ 110 ∷ 116 ∷ 32 ∷ []) f
+
+-- `cell P`, and what it shows
+unfoldable pub cellLine : Condition → ℕ → List ℕ
+cellLine c p = numbered (99 ∷ 101 ∷ 108 ∷ 108 ∷ 32 ∷ []) p ++ (showsText (viewAnswer c p .shows) ++ newLine)
+
+-- the dots P1 to P35 of a user character, 1 where it is lit, else 0
+unfoldable pub dotText : Condition → ℕ → ℕ → List ℕ
+dotText c code i = decimalOf (dotAnswer c code (i + 1) .value)
+
+-- `user HH`, its dots, ` underline U lit N`
+unfoldable pub userLine : Condition → ℕ → List ℕ
+userLine c code =
+    ((117 ∷ 115 ∷ 101 ∷ 114 ∷ 32 ∷ []) ++ hexOf code) ++ ((32 ∷ []) ++ (each (dotText c code) 35
+    ++ (numbered (32 ∷ 117 ∷ 110 ∷ 100 ∷ 101 ∷ 114 ∷ 108 ∷ 105 ∷ 110 ∷ 101 ∷ 32 ∷ []) (underlineAnswer c code .value)
+    ++ (numbered (32 ∷ 108 ∷ 105 ∷ 116 ∷ 32 ∷ []) (litAnswer c code .value) ++ newLine))))
+
+-- the user character at a place, counted from the oldest
+unfoldable pub placeLine : Condition → ℕ → List ℕ
+placeLine c i = userLine c (getD (c .users .bytes) (i * 6) 0)
+
+-- the 40 cells in order, then the user characters held, the oldest first
+unfoldable pub reportOf : Condition → List ℕ
+reportOf c = each (cellLine c) 40 ++ each (placeLine c) (min (c .users .count) 16)
+
+-- what is printed of a run: its report, then the tally; or `refused N` alone
+abbrev pub toldOf : Ran → List ℕ
+toldOf r = printOf (reportOf (r .condition)) r
+
+abbrev pub noTally : Tally
+noTally = record { bytes = 0; busy = 0; flickerless = 0 }
+
+-- the run that is told of: from power-up font 0 with a zero tally
+abbrev pub ranOf : List ℕ → Ran
+ranOf input = runAnswer (powerUp 0) noTally input
