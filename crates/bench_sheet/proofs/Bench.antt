@@ -14,11 +14,11 @@ use Rattle.condition.specs.Steps.{wrong}
 use Rattle.moves.specs.Moves.{left, next, down, move, near1, near2, dist}
 use Rattle.moves.specs.Ways.{leaves, firstByte, pathOf, path}
 use Rattle.planner.specs.Plan.{flagged, planOf, plan}
-use Rattle.planner.specs.Answer.{onMove, lacks, someLacks, planRefusal}
+use Rattle.planner.specs.Answer.{onMove, lacks, someLacks, refusalBy, planRefusal}
 use Rattle.bench_sheet.specs.Sheet.{AllHold, dotsUpTo, sheet}
 
 pub bench : AllHold sheet
-unfolding powerUp runOf stepAt isChar isUser foundIn limitOf writeOf pushOf rightOf scrollOf scrolled shifted lineStart controlOf leftOf downOf returnOf clearOf escapeOf positionOf dataOf defineOf definedAt putOf busyOf figureAt writeBusy controlBusy escapeBusy rightScrolls downScrolls lineShifts showsOf showsCode dotsUpTo dotAnswer litAnswer lookupOf wellFormed numbersGood scrollGood allUpTo usersGood absent pendingGood escapeGood characterAt dotOf litOf litUpTo wrong left next down move near1 near2 dist leaves firstByte pathOf path flagged planOf plan onMove lacks someLacks planRefusal
+unfolding powerUp runOf stepAt isChar isUser foundIn limitOf writeOf pushOf rightOf scrollOf scrolled shifted lineStart controlOf leftOf downOf returnOf clearOf escapeOf positionOf dataOf defineOf definedAt putOf busyOf figureAt writeBusy controlBusy escapeBusy rightScrolls downScrolls lineShifts showsOf showsCode dotsUpTo dotAnswer litAnswer lookupOf wellFormed numbersGood scrollGood allUpTo usersGood absent pendingGood escapeGood characterAt dotOf litOf litUpTo wrong left next down move near1 near2 dist leaves firstByte pathOf path flagged planOf plan onMove lacks someLacks refusalBy planRefusal
 bench = (
   (refl, refl),
   (

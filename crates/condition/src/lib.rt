@@ -71,7 +71,7 @@ pub struct Answer {
 }
 
 // Every byte of s is at most n.
-fn up_to(n: u8, s: &[u8]) -> bool
+pub fn up_to(n: u8, s: &[u8]) -> bool
     ensures { λ r. ⌜ r ≡ allUpTo n (now (s .entry)) ⌝ }
 {
     let mut i = 0;

@@ -1,57 +1,109 @@
--- What the planner's bytes act on: the codes, the fonts, the cursor, and how much of 1Bh 48h p has come. Mode 1.
--- `chars` says which bytes are written as characters, and f is the selected font.
-use mathlib.Core.Bool.{Bool, true, false, cond, _&&_}
+-- What the planner's bytes act on: the codes, the fonts, the cursor, the selected font, and how much of a step of several bytes has
+-- come. Mode 1. `chars` says which bytes are written as characters, `mark` whether the Euro mark was on at the start, and
+-- `switching` whether the steps are those of document 01 alone or have 19h and 18h besides.
+use mathlib.Core.Path.{_≡_}
+use mathlib.Core.Logic.{⊎-elim}
+use mathlib.Core.Bool.{Bool, true, false, cond, not, _&&_, _||_, or-false}
 use mathlib.Core.List.{List, [], _∷_}
-use Prim.Native.Nat.{ℕ, suc}
+use Prim.Native.Nat.{ℕ, suc, _≤_}
 use lib.Dec.{eqb, leb}
-use lib.ListN.{set}
+use lib.ListN.{getD, set}
+use borrow.Author.Tests.{eqb-true, leb-true}
 use Rattle.moves.specs.Moves.{any, moves, move, next}
-use Rattle.moves.specs.Ways.{Half, none, escape, place}
+use Rattle.moves.proofs.Lists.{bool, and-left, and-right}
+
+-- how much of 1Bh 48h p or of 18h 1Ah has come
+pub data Part : Type 0 where
+  none escape place back : Part
 
 pub record Glass : Type 0 where
-  pub pend : Half
+  pub part : Part
   pub cursor : ℕ
+  pub font : ℕ
   pub codes : List ℕ
   pub fonts : List ℕ
 
-abbrev pub glass : Half → ℕ → List ℕ → List ℕ → Glass
-glass k p cs fs = record { pend = k; cursor = p; codes = cs; fonts = fs }
+abbrev pub glass : Part → ℕ → ℕ → List ℕ → List ℕ → Glass
+glass k p f cs fs = record { part = k; cursor = p; font = f; codes = cs; fonts = fs }
 
-unfoldable pub whole : Half → Bool
+unfoldable pub whole : Part → Bool
 whole none = true
 whole escape = false
 whole place = false
+whole back = false
 
-module _ (chars : ℕ → Bool) (f : ℕ) where
-  -- one byte
-  unfoldable pub stepAt : Half → ℕ → List ℕ → List ℕ → ℕ → Glass
-  stepAt none p cs fs b =
-      cond (chars b) (glass none (next p) (set cs p b) (set fs p f))
-      (cond (eqb b 0x1B) (glass escape p cs fs)
-      (cond (any (eqb b) moves) (glass none (move b p) cs fs) (glass none p cs fs)))
-  stepAt escape p cs fs b = cond (eqb b 0x48) (glass place p cs fs) (glass none p cs fs)
-  stepAt place p cs fs b = cond (leb b 0x27) (glass none b cs fs) (glass none p cs fs)
+-- a cell is wrong when its code or its font differs from the wanted one
+unfoldable pub wrongIn : (ℕ → ℕ) → List ℕ → List ℕ → List ℕ → ℕ → Bool
+wrongIn font wanted codes fonts i = not (eqb (getD codes i 0) (getD wanted i 0) && eqb (getD fonts i 0) (font i))
+
+module _ (switching mark : Bool) (chars : ℕ → Bool) where
+  -- one byte of a string of steps
+  unfoldable pub stepAt : Part → ℕ → ℕ → List ℕ → List ℕ → ℕ → Glass
+  stepAt none p f cs fs b =
+      cond (chars b) (glass none (next p) f (set cs p b) (set fs p f))
+      (cond (eqb b 0x1B) (glass escape p f cs fs)
+      (cond (any (eqb b) moves) (glass none (move b p) f cs fs)
+      (cond (eqb b 0x19) (glass none p 1 cs fs)
+      (cond mark (glass back p f cs fs) (glass none p 0 cs fs)))))
+  stepAt escape p f cs fs b = glass place p f cs fs
+  stepAt place p f cs fs b = glass none b f cs fs
+  stepAt back p f cs fs b = glass none p 0 cs fs
 
   abbrev pub step : Glass → ℕ → Glass
-  step g b = stepAt (g .pend) (g .cursor) (g .codes) (g .fonts) b
+  step g b = stepAt (g .part) (g .cursor) (g .font) (g .codes) (g .fonts) b
 
   abbrev pub run : Glass → List ℕ → Glass
   run g [] = g
   run g (b ∷ bs) = run (step g b) bs
 
-  -- the byte b, of a string of the planner's steps: no cell below lo is written any more
-  unfoldable pub allowed : Half → ℕ → ℕ → ℕ → Bool
-  allowed none p lo b = cond (chars b) (leb lo p) (cond (eqb b 0x1B) true (any (eqb b) moves))
+  -- the byte b may come next: no cell below lo is written any more
+  unfoldable pub allowed : Part → ℕ → ℕ → ℕ → Bool
+  allowed none p lo b =
+      cond (chars b) (leb lo p)
+      (cond (eqb b 0x1B) true
+      (cond (any (eqb b) moves) true (switching && (eqb b 0x18 || eqb b 0x19))))
   allowed escape p lo b = eqb b 0x48
   allowed place p lo b = leb b 0x27
+  allowed back p lo b = not (chars b) && eqb b 0x1A
 
   -- the lowest place that may be written after it
-  unfoldable pub lowAt : Half → ℕ → ℕ → ℕ → ℕ
+  unfoldable pub lowAt : Part → ℕ → ℕ → ℕ → ℕ
   lowAt none p lo b = cond (chars b) (suc p) lo
   lowAt escape p lo b = lo
   lowAt place p lo b = lo
+  lowAt back p lo b = lo
 
   -- a reading-order string
   abbrev pub ordered : Glass → ℕ → List ℕ → Bool
-  ordered g lo [] = whole (g .pend)
-  ordered g lo (b ∷ bs) = allowed (g .pend) (g .cursor) lo b && ordered (step g b) (lowAt (g .pend) (g .cursor) lo b) bs
+  ordered g lo [] = whole (g .part)
+  ordered g lo (b ∷ bs) = allowed (g .part) (g .cursor) lo b && ordered (step g b) (lowAt (g .part) (g .cursor) lo b) bs
+
+  -- what the byte b, which may come next, does where nothing is half received, by its kind: a character write, 1Bh, a one-byte move,
+  -- 19h, 18h with 1Ah to follow, 18h alone
+  pub by-kind : (P : Glass → ℕ → Type 0) (p lo f : ℕ) (cs fs : List ℕ) (b : ℕ) → allowed none p lo b ≡ true
+      → (chars b ≡ true → lo ≤ p → P (glass none (next p) f (set cs p b) (set fs p f)) (suc p))
+      → (chars b ≡ false → b ≡ 0x1B → P (glass escape p f cs fs) lo)
+      → (chars b ≡ false → any (eqb b) moves ≡ true → P (glass none (move b p) f cs fs) lo)
+      → (chars b ≡ false → switching ≡ true → b ≡ 0x19 → P (glass none p 1 cs fs) lo)
+      → (chars b ≡ false → switching ≡ true → b ≡ 0x18 → mark ≡ true → P (glass back p f cs fs) lo)
+      → (chars b ≡ false → switching ≡ true → b ≡ 0x18 → mark ≡ false → P (glass none p 0 cs fs) lo)
+      → P (stepAt none p f cs fs b) (lowAt none p lo b)
+  unfolding stepAt allowed lowAt
+  by-kind P p lo f cs fs b a write esc move on off1 off0 =
+      ⊎-elim (λ (e : chars b ≡ true). rw e (write e (leb-true lo p (rw e at a))))
+      (λ (e : chars b ≡ false). rw e
+      (⊎-elim (λ (z : eqb b 0x1B ≡ true). rw z (esc e (eqb-true b 0x1B z)))
+      (λ (z : eqb b 0x1B ≡ false). rw z
+      (⊎-elim (λ (m : any (eqb b) moves ≡ true). rw m (move e m))
+      (λ (m : any (eqb b) moves ≡ false).
+      let o = rw (e, z, m) at a in
+      let s : switching ≡ true = and-left switching _ o in
+      rw m
+      (⊎-elim (λ (y : eqb b 0x19 ≡ true). rw y (on e s (eqb-true b 0x19 y)))
+      (λ (y : eqb b 0x19 ≡ false).
+      let t : b ≡ 0x18 = eqb-true b 0x18 (rw (y, or-false) at (and-right switching _ o)) in
+      rw y (⊎-elim (λ (k : mark ≡ true). rw k (off1 e s t k)) (λ (k : mark ≡ false). rw k (off0 e s t k)) (bool mark)))
+      (bool (eqb b 0x19))))
+      (bool (any (eqb b) moves))))
+      (bool (eqb b 0x1B))))
+      (bool (chars b))

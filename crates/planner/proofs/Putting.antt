@@ -11,11 +11,11 @@ use lib.Seq.{sets, sets-eq, length-sets, take-all, take-append-seam, drop-drop}
 use Rattle.row.specs.Row.{laid}
 use Rattle.moves.specs.Moves.{next}
 use Rattle.moves.specs.Ways.{path}
-use Rattle.planner.specs.Plan.{flagged, planOf, atStart}
-use Rattle.planner.specs.Parts.{wrongIn, planIn}
+use Rattle.planner.specs.Plan.{flagged, atStart}
+use Rattle.planner.specs.Fonts.{switch, fontsPlanOf}
 use Rattle.moves.proofs.Moving.{next-below, path-most}
+use Rattle.planner.proofs.Glass.{wrongIn}
 use Rattle.planner.proofs.Costs.{flagged-yes, flagged-no}
-use Rattle.planner.proofs.Picture.{plan-most}
 
 pub sets-append : (l : List ℕ) (i : ℕ) (xs ys : List ℕ) → sets l i (xs ++ ys) ≡ sets (sets l i xs) (i + length xs) ys
 sets-append l i [] ys = ap (λ (k : ℕ). sets l k ys) (sym (add-zero i))
@@ -54,91 +54,109 @@ put-front out xs h = sets-eq xs out 0 (omega arith) ∙ ap (λ (n : ℕ). xs ++ 
 
 -- the plan ----------------------------------------------------------------------------------------------------------------------
 
+left-suc : (i : ℕ) → i < 40 → 40 - i ≡ suc (40 - (i + 1))
+left-suc i h = omega arith
+
 rest-no : (w : ℕ → Bool) (i : ℕ) → i < 40 → w i ≡ false → flagged w (40 - i) i ≡ flagged w (40 - (i + 1)) (i + 1)
 rest-no w i h e =
     ap (λ (n : ℕ). flagged w n i) (left-suc i h) ∙ flagged-no w (40 - (i + 1)) i e ∙ ap (λ (n : ℕ). flagged w (40 - (i + 1)) n) (sym (add-one i))
-  where
-    left-suc : (i : ℕ) → i < 40 → 40 - i ≡ suc (40 - (i + 1))
-    left-suc i h = omega arith
 
 rest-yes : (w : ℕ → Bool) (i : ℕ) → i < 40 → w i ≡ true → flagged w (40 - i) i ≡ i ∷ flagged w (40 - (i + 1)) (i + 1)
 rest-yes w i h e =
     ap (λ (n : ℕ). flagged w n i) (left-suc i h) ∙ flagged-yes w (40 - (i + 1)) i e ∙ ap (λ (n : ℕ). i ∷ flagged w (40 - (i + 1)) n) (sym (add-one i))
-  where
-    left-suc : (i : ℕ) → i < 40 → 40 - i ≡ suc (40 - (i + 1))
-    left-suc i h = omega arith
 
--- what is left of the plan at the cell i, from the place p
-unfoldable pub rest : ℕ → List ℕ → ℕ → List ℕ → List ℕ → ℕ → ℕ → List ℕ
-rest f ws q cs fs p i = planOf ws q p (flagged (wrongIn f ws cs fs) (40 - i) i)
+-- from the condition's parts: the Euro mark, the cells, the cursor and the selected font
+module _ (e : Bool) (ws gs cs fs : List ℕ) (q p₀ f₀ : ℕ) where
+  abbrev bad : ℕ → Bool
+  bad = wrongIn (λ j. getD gs j 0) ws cs fs
 
-pub record Planning (f : ℕ) (ws : List ℕ) (q : ℕ) (cs fs : List ℕ) (p₀ : ℕ) (out₀ out : List ℕ) (p k i : ℕ) : Type 0 where
-  pub upto : i ≤ 40
-  pub inside : p < 40
-  pub count : k + length (rest f ws q cs fs p i) ≡ length (planIn f ws q p₀ cs fs)
-  pub same : sets out₀ 0 (planIn f ws q p₀ cs fs) ≡ sets out k (rest f ws q cs fs p i)
-  pub long : length out ≡ length out₀
+  unfoldable pub planIn : List ℕ
+  planIn = fontsPlanOf e ws (λ j. getD gs j 0) q p₀ f₀ (flagged bad 40 0)
 
-pub plan-start : (f : ℕ) (ws : List ℕ) (q : ℕ) (cs fs : List ℕ) (p : ℕ) (out : List ℕ) → p < 40 → Planning f ws q cs fs p out out p 0 0
-unfolding rest planIn
-plan-start f ws q cs fs p out h = record { upto = omega arith; inside = h; count = omega arith; same = refl; long = refl }
+  -- what is left of the plan at the cell i, from the place p and with f selected
+  unfoldable pub rest : ℕ → ℕ → ℕ → List ℕ
+  rest p f i = fontsPlanOf e ws (λ j. getD gs j 0) q p f (flagged bad (40 - i) i)
 
-module _ {f : ℕ} {ws : List ℕ} {q : ℕ} {cs fs : List ℕ} {p₀ : ℕ} {out₀ out : List ℕ} {p k i : ℕ} (c : Planning f ws q cs fs p₀ out₀ out p k i) where
-  pub plan-skip : (out′ : List ℕ) (p′ k′ : ℕ) → i < 40 → wrongIn f ws cs fs i ≡ false → out′ ≡ out → p′ ≡ p → k′ ≡ k
-      → Planning f ws q cs fs p₀ out₀ out′ p′ k′ (i + 1)
-  unfolding rest
-  plan-skip out′ p′ k′ h e eo ep ek =
-      let r = ap (λ (l : List ℕ). planOf ws q p l) (rest-no (wrongIn f ws cs fs) i h e) in
-      rw (eo, ep, ek) (record { upto = omega arith; inside = c .inside; count = rw (← r) (c .count); same = rw (← r) (c .same); long = c .long })
+  -- the bytes at a wrong cell behind its way
+  abbrev pub written : ℕ → ℕ → List ℕ
+  written f i = switch e f (getD gs i 0) ++ getD ws i 0 ∷ []
 
-  -- the bytes at a wrong cell, and the rest
-  rest-write : i < 40 → wrongIn f ws cs fs i ≡ true → rest f ws q cs fs p i ≡ (path p i ++ getD ws i 0 ∷ []) ++ rest f ws q cs fs (next i) (i + 1)
-  unfolding rest planOf
-  rest-write h e = ap (λ (l : List ℕ). planOf ws q p l) (rest-yes (wrongIn f ws cs fs) i h e) ∙ sym (append-assoc (path p i) (getD ws i 0 ∷ []) _)
+  pub record Planning (out₀ out : List ℕ) (p f k i : ℕ) : Type 0 where
+    pub upto : i ≤ 40
+    pub inside : p < 40
+    pub count : k + length (rest p f i) ≡ length planIn
+    pub same : sets out₀ 0 planIn ≡ sets out k (rest p f i)
+    pub long : length out ≡ length out₀
+    pub room : length planIn ≤ length out₀
 
-  pub plan-write : (out′ : List ℕ) (p′ k′ : ℕ) → i < 40 → wrongIn f ws cs fs i ≡ true
-      → (k′ ≡ k + length (path p i ++ getD ws i 0 ∷ [])) × (out′ ≡ sets out k (path p i ++ getD ws i 0 ∷ [])) → p′ ≡ next i
-      → Planning f ws q cs fs p₀ out₀ out′ p′ k′ (i + 1)
-  plan-write out′ p′ k′ h e d g =
-      let r = rest-write h e in
-      let b = path p i ++ getD ws i 0 ∷ [] in
-      record {
-        upto = omega arith;
-        inside = rw g (next-below i h);
-        count = rw g (omega (arith, c .count, ap length r, length-append b (rest f ws q cs fs (next i) (i + 1)), d .0));
-        same = c .same ∙ ap (λ (l : List ℕ). sets out k l) r ∙ sets-append out k b (rest f ws q cs fs (next i) (i + 1)) ∙ rw (d .0, d .1, g);
-        long = ap length (d .1) ∙ length-sets out k b ∙ c .long;
-      }
+  pub plan-start : (out : List ℕ) → p₀ < 40 → length planIn ≤ length out → Planning out out p₀ f₀ 0 0
+  unfolding rest planIn
+  plan-start out h r = record { upto = omega arith; inside = h; count = omega arith; same = refl; long = refl; room = r }
 
-  -- room for the bytes at a wrong cell, where the buffer has 44
-  pub plan-room : i < 40 → wrongIn f ws cs fs i ≡ true → 44 ≤ length out₀ → k + length (path p i ++ getD ws i 0 ∷ []) ≤ length out
-  plan-room h e r =
-      omega (
-        arith,
-        c .count,
-        c .long,
-        ap length (rest-write h e),
-        length-append (path p i ++ getD ws i 0 ∷ []) (rest f ws q cs fs (next i) (i + 1)),
-        plan-most f ws q p₀ cs fs,
-      )
+  module _ {out₀ out : List ℕ} {p f k i : ℕ} (v : Planning out₀ out p f k i) where
+    pub plan-skip : (out′ : List ℕ) (p′ f′ k′ : ℕ) → i < 40 → bad i ≡ false → out′ ≡ out → p′ ≡ p → f′ ≡ f → k′ ≡ k
+        → Planning out₀ out′ p′ f′ k′ (i + 1)
+    unfolding rest
+    plan-skip out′ p′ f′ k′ h b eo ep ef ek =
+        let r = ap (λ (l : List ℕ). fontsPlanOf e ws (λ j. getD gs j 0) q p f l) (rest-no bad i h b) in
+        rw (eo, ep, ef, ek) (record { upto = omega arith; inside = v .inside; count = rw (← r) (v .count); same = rw (← r) (v .same); long = v .long; room = v .room })
 
-  rest-end : 40 ≤ i → rest f ws q cs fs p i ≡ path p q
-  unfolding rest flagged planOf
-  rest-end h = ap (λ (n : ℕ). planOf ws q p (flagged (wrongIn f ws cs fs) n i)) (zero-left i h)
-    where
-      zero-left : (i : ℕ) → 40 ≤ i → 40 - i ≡ 0
-      zero-left i h = omega arith
+    -- the bytes at a wrong cell, and the rest
+    rest-write : i < 40 → bad i ≡ true → rest p f i ≡ path p i ++ (written f i ++ rest (next i) (getD gs i 0) (i + 1))
+    unfolding rest fontsPlanOf
+    rest-write h b =
+        ap (λ (l : List ℕ). fontsPlanOf e ws (λ j. getD gs j 0) q p f l) (rest-yes bad i h b)
+        ∙ ap (λ (l : List ℕ). path p i ++ l) (sym (append-assoc (switch e f (getD gs i 0)) (getD ws i 0 ∷ []) _))
 
-  -- room for the way to the asked cursor, and the end
-  pub end-room : 40 ≤ i → 44 ≤ length out₀ → k + length (path p q) ≤ length out
-  end-room h r = omega (arith, c .count, c .long, ap length (rest-end h), plan-most f ws q p₀ cs fs)
+    rest-length : i < 40 → bad i ≡ true → length (rest p f i) ≡ length (path p i) + (length (written f i) + length (rest (next i) (getD gs i 0) (i + 1)))
+    rest-length h b =
+        ap length (rest-write h b) ∙ length-append (path p i) _ ∙ ap (λ (n : ℕ). length (path p i) + n) (length-append (written f i) (rest (next i) (getD gs i 0) (i + 1)))
 
-  pub plan-end : (out′ : List ℕ) (at : ℕ) → 40 ≤ i → 44 ≤ length out₀ → (at ≡ k + length (path p q)) × (out′ ≡ sets out k (path p q))
-      → (at ≡ length (planIn f ws q p₀ cs fs)) × (out′ ≡ atStart (planIn f ws q p₀ cs fs) out₀)
-  plan-end out′ at h r d = (
-    omega (arith, d .0, c .count, ap length (rest-end h)),
-    d .1 ∙ ap (λ (l : List ℕ). sets out k l) (sym (rest-end h)) ∙ sym (c .same) ∙ put-front out₀ (planIn f ws q p₀ cs fs) (omega (arith, plan-most f ws q p₀ cs fs)),
-  )
+    -- room for the way to a wrong cell, and for what is written there
+    pub way-room : i < 40 → bad i ≡ true → k + length (path p i) ≤ length out
+    way-room h b = omega (arith, v .count, v .long, v .room, rest-length h b)
 
-  pub end-long : (out′ : List ℕ) → out′ ≡ sets out k (path p q) → length out′ ≡ length out₀
-  end-long out′ e = ap length e ∙ length-sets out k (path p q) ∙ c .long
+    pub code-room : (out′ : List ℕ) (at : ℕ) → i < 40 → bad i ≡ true → (at ≡ k + length (path p i)) × (out′ ≡ sets out k (path p i))
+        → at + length (written f i) ≤ length out′
+    code-room out′ at h b d = omega (arith, v .count, v .long, v .room, rest-length h b, d .0, ap length (d .1) ∙ length-sets out k (path p i))
+
+    pub plan-write : (mid out′ : List ℕ) (at p′ f′ k′ : ℕ) → i < 40 → bad i ≡ true
+        → (at ≡ k + length (path p i)) × (mid ≡ sets out k (path p i))
+        → (k′ ≡ at + length (written f i)) × (out′ ≡ sets mid at (written f i)) → p′ ≡ next i → f′ ≡ getD gs i 0
+        → Planning out₀ out′ p′ f′ k′ (i + 1)
+    plan-write mid out′ at p′ f′ k′ h x d b ep ef =
+        let r = rest-write h x in
+        let t = rest (next i) (getD gs i 0) (i + 1) in
+        rw (ep, ef)
+        (record {
+          upto = omega arith;
+          inside = next-below i h;
+          count = omega (arith, v .count, rest-length h x, d .0, b .0);
+          same =
+              v .same ∙ ap (λ (l : List ℕ). sets out k l) r ∙ sets-append out k (path p i) (written f i ++ t)
+              ∙ sets-append (sets out k (path p i)) (k + length (path p i)) (written f i) t
+              ∙ rw (b .0, b .1, d .0, d .1);
+          long = ap length (b .1) ∙ length-sets mid at (written f i) ∙ ap length (d .1) ∙ length-sets out k (path p i) ∙ v .long;
+          room = v .room;
+        })
+
+    rest-end : 40 ≤ i → rest p f i ≡ path p q
+    unfolding rest flagged fontsPlanOf
+    rest-end h = ap (λ (n : ℕ). fontsPlanOf e ws (λ j. getD gs j 0) q p f (flagged bad n i)) (zero-left i h)
+      where
+        zero-left : (i : ℕ) → 40 ≤ i → 40 - i ≡ 0
+        zero-left i h = omega arith
+
+    -- room for the way to the asked cursor, and the end
+    pub end-room : 40 ≤ i → k + length (path p q) ≤ length out
+    end-room h = omega (arith, v .count, v .long, v .room, ap length (rest-end h))
+
+    pub plan-end : (out′ : List ℕ) (at : ℕ) → 40 ≤ i → (at ≡ k + length (path p q)) × (out′ ≡ sets out k (path p q))
+        → (at ≡ length planIn) × (out′ ≡ atStart planIn out₀)
+    plan-end out′ at h d = (
+      omega (arith, d .0, v .count, ap length (rest-end h)),
+      d .1 ∙ ap (λ (l : List ℕ). sets out k l) (sym (rest-end h)) ∙ sym (v .same) ∙ put-front out₀ planIn (v .room),
+    )
+
+    pub end-long : (out′ : List ℕ) → out′ ≡ sets out k (path p q) → length out′ ≡ length out₀
+    end-long out′ o = ap length o ∙ length-sets out k (path p q) ∙ v .long

@@ -1,28 +1,29 @@
 -- What a refusal number says: 0 that the condition can be planned from, any other that nothing changes.
-use mathlib.Core.Path.{_≡_, refl, sym, _∙_}
+use mathlib.Core.Path.{_≡_, refl, sym, ap, _∙_}
 use mathlib.Core.Logic.{⊎-elim}
 use mathlib.Core.Bool.{Bool, true, false, cond, not, _&&_, _||_}
-use mathlib.Core.List.{List, [], _∷_}
+use mathlib.Core.List.{List, [], _∷_, _++_}
 use Prim.Native.Nat.{ℕ, zero, suc, _≤_, _<_}
 use native.Mathlib.Omega.{arith}
 use lib.Dec.{eqb, ltb, leb}
-use lib.ListN.{length, getD}
+use lib.ListN.{length, getD, take, replicate}
 use lib.Seq.{take-append-seam}
 use borrow.Author.Tests.{eqb-true, eq-eqb, ne-eqb, ltb-false, leb-true, le-leb, not-false}
 use Rattle.users.specs.declared.Users.{Users}
 use Rattle.users.specs.Users.{isUser}
 use Rattle.condition.specs.declared.Condition.{Condition}
-use Rattle.condition.specs.Condition.{idle, wellFormed}
+use Rattle.condition.specs.Condition.{idle, wellFormed, allUpTo}
 use Rattle.condition.specs.Bytes.{isChar}
+use Rattle.condition.proofs.Good.{good}
 use Rattle.moves.specs.Moves.{any, moves}
 use Rattle.moves.proofs.Lists.{bool, clash, and-left, and-right}
 use Rattle.moves.proofs.Moving.{each-move}
 use Rattle.moves.proofs.Interpreter.{ready}
 use Rattle.planner.specs.declared.Planned.{Planned}
-use Rattle.planner.specs.Plan.{atStart, plan}
-use Rattle.planner.specs.Parts.{planIn}
-use Rattle.planner.specs.Answer.{onMove, lacks, someLacks, planRefusal, planBytes, planAnswer, planOut, Plans}
-use Rattle.planner.proofs.Demand.{Plannable, plan-in, delivers}
+use Rattle.planner.specs.Plan.{atStart, plan, Delivers}
+use Rattle.planner.specs.Fonts.{fontsPlan, FontsDelivers}
+use Rattle.planner.specs.Answer.{onMove, onSwitch, lacks, someLacks, refusalBy, planRefusal, fontsRefusal, bytesBy, Promise}
+use Rattle.planner.proofs.Demand.{Plannable, Switchable, plan-most, delivers, fonts-most, fonts-deliver, one-font}
 
 -- a refusal that is not given, and what comes after it
 passed : (t : Bool) (n r : ℕ) → cond t (suc n) r ≡ 0 → (t ≡ false) × (r ≡ 0)
@@ -32,6 +33,39 @@ passed false n r e = (refl, e)
 neither : (s t : Bool) → (s || t) ≡ false → (s ≡ false) × (t ≡ false)
 neither true t e = clash refl e
 neither false t e = (refl, e)
+
+-- no refusal is given
+record Clear (long ranged blocked short : Bool) (c : Condition) (wanted : List ℕ) : Type 0 where
+  lengths : long ≡ true
+  formed : wellFormed c ≡ true
+  in-range : ranged ≡ true
+  nothing-half : idle (c .pending) ≡ true
+  mode-1 : c .mode ≡ 1
+  unblocked : blocked ≡ false
+  codes-shown : someLacks (c .users) wanted ≡ false
+  room : short ≡ false
+
+clear : (long ranged blocked short : Bool) (c : Condition) (wanted : List ℕ) → refusalBy long ranged blocked short c wanted ≡ 0 → Clear long ranged blocked short c wanted
+unfolding refusalBy
+clear long ranged blocked short c wanted e =
+    let p1 = passed (not long) _ _ e in
+    let p3 = passed (not (wellFormed c && ranged)) _ _ (p1 .1) in
+    let p6 = passed (not (idle (c .pending))) _ _ (p3 .1) in
+    let p7 = passed (not (eqb (c .mode) 1)) _ _ (p6 .1) in
+    let p8 = passed blocked _ _ (p7 .1) in
+    let p9 = passed (someLacks (c .users) wanted) _ _ (p8 .1) in
+    let p10 = passed short _ _ (p9 .1) in
+    let g = not-false _ (p3 .0) in
+    record {
+      lengths = not-false _ (p1 .0);
+      formed = and-left (wellFormed c) ranged g;
+      in-range = and-right (wellFormed c) ranged g;
+      nothing-half = not-false _ (p6 .0);
+      mode-1 = eqb-true _ _ (not-false _ (p7 .0));
+      unblocked = p8 .0;
+      codes-shown = p9 .0;
+      room = p10 .0;
+    }
 
 -- 8 is not given: no user character on a code that the planner moves with
 record Free (u : Users) : Type 0 where
@@ -74,28 +108,20 @@ all-show c [] e i h = absurd (omega arith)
 all-show c (w ∷ ws) e zero h = shows c w (neither (lacks (c .users) w) _ e .0)
 all-show c (w ∷ ws) e (suc i) h = all-show c ws (neither (lacks (c .users) w) _ e .1) i (omega arith)
 
-pub record Accepted (c : Condition) (wanted : List ℕ) (asked room : ℕ) : Type 0 where
+-- what the planners can go on with
+pub record Accepted (c : Condition) (wanted : List ℕ) (asked : ℕ) : Type 0 where
   pub plannable : length (c .codes) ≡ 40 → length (c .fonts) ≡ 40 → Plannable c wanted asked
   pub cursor-40 : c .cursor < 40
+  pub font-1 : c .font ≤ 1
   pub wanted-40 : length wanted ≡ 40
   pub asked-40 : asked < 40
-  pub room-44 : 44 ≤ room
 
-pub accepted : (c : Condition) (wanted : List ℕ) (asked room : ℕ) → planRefusal c wanted asked room ≡ 0 → Accepted c wanted asked room
-unfolding planRefusal
-accepted c wanted asked room e =
-    let p1 = passed (not (eqb (length wanted) 40)) _ _ e in
-    let p3 = passed (not (wellFormed c && leb asked 39)) _ _ (p1 .1) in
-    let p6 = passed (not (idle (c .pending))) _ _ (p3 .1) in
-    let p7 = passed (not (eqb (c .mode) 1)) _ _ (p6 .1) in
-    let p8 = passed (onMove (c .users)) _ _ (p7 .1) in
-    let p9 = passed (someLacks (c .users) wanted) _ _ (p8 .1) in
-    let p10 = passed (ltb room 44) _ _ (p9 .1) in
-    let l : length wanted ≡ 40 = eqb-true _ _ (not-false _ (p1 .0)) in
-    let g = not-false _ (p3 .0) in
-    let q : asked ≤ 39 = leb-true asked 39 (and-right (wellFormed c) _ g) in
-    let r = ready c (and-left (wellFormed c) _ g) (eqb-true _ _ (not-false _ (p7 .0))) (not-false _ (p6 .0)) in
-    let f = free (c .users) (p8 .0) in
+accepted-by : (long ranged blocked short : Bool) (c : Condition) (wanted : List ℕ) (asked : ℕ) → Clear long ranged blocked short c wanted
+    → length wanted ≡ 40 → leb asked 39 ≡ true → onMove (c .users) ≡ false → Accepted c wanted asked
+accepted-by long ranged blocked short c wanted asked k l a u =
+    let q : asked ≤ 39 = leb-true asked 39 a in
+    let r = ready c (k .formed) (k .mode-1) (k .nothing-half) in
+    let f = free (c .users) u in
     record {
       plannable = λ lc lf. record {
         ready = r;
@@ -105,51 +131,95 @@ accepted c wanted asked room e =
         asked-40 = omega arith;
         escape-free = escape-free c f;
         moves-free = moves-free c f;
-        shown = λ i h. all-show c wanted (p9 .0) i (omega arith);
+        shown = λ i h. all-show c wanted (k .codes-shown) i (omega arith);
       };
       cursor-40 = r .inside;
+      font-1 = good c (k .formed) .font-1;
       wanted-40 = l;
       asked-40 = omega arith;
-      room-44 = ltb-false room 44 (p10 .0);
     }
 
--- the plan on the condition's parts
-abbrev pub planHere : Condition → List ℕ → ℕ → List ℕ
-planHere c wanted asked = planIn (c .font) wanted asked (c .cursor) (c .codes) (c .fonts)
+pub accepted : (c : Condition) (wanted : List ℕ) (asked room : ℕ) → planRefusal c wanted asked room ≡ 0 → Accepted c wanted asked × (44 ≤ room)
+unfolding planRefusal
+accepted c wanted asked room e =
+    let k = clear (eqb (length wanted) 40) (leb asked 39) (onMove (c .users)) (ltb room 44) c wanted e in
+    (accepted-by _ _ _ _ c wanted asked k (eqb-true _ _ (k .lengths)) (k .in-range) (k .unblocked), ltb-false room 44 (k .room))
+
+-- for two fonts: 18h, 19h and 1Ah are steps, and the fonts are 0 or 1
+fonts-up : (n : ℕ) (fs : List ℕ) → allUpTo n fs ≡ true → (i : ℕ) → getD fs i 0 ≤ n
+unfolding allUpTo
+fonts-up n [] e i = omega arith
+fonts-up n (x ∷ xs) e zero = leb-true x n (and-left (leb x n) (allUpTo n xs) e)
+fonts-up n (x ∷ xs) e (suc i) = fonts-up n xs (and-right (leb x n) (allUpTo n xs) e) i
+
+no-char : (c : Condition) (b : ℕ) → leb 0x20 b ≡ false → isUser (c .users) b ≡ false → isChar c b ≡ false
+unfolding isChar
+no-char c b l u = rw (u, l)
+
+pub record FontsAccepted (c : Condition) (wanted fonts : List ℕ) (asked : ℕ) : Type 0 where
+  pub codes : Accepted c wanted asked
+  pub switchable : Switchable c fonts
+  pub fonts-40 : length fonts ≡ 40
+
+pub fonts-accepted : (c : Condition) (wanted fonts : List ℕ) (asked room : ℕ) → fontsRefusal c wanted fonts asked room ≡ 0 → FontsAccepted c wanted fonts asked × (104 ≤ room)
+unfolding fontsRefusal onSwitch
+fonts-accepted c wanted fonts asked room e =
+    let k = clear (eqb (length wanted) 40 && eqb (length fonts) 40) (leb asked 39 && allUpTo 1 fonts) (onMove (c .users) || onSwitch (c .users)) (ltb room 104) c wanted e in
+    let l = eqb-true _ _ (and-left (eqb (length wanted) 40) _ (k .lengths)) in
+    let m : length fonts ≡ 40 = eqb-true _ _ (and-right (eqb (length wanted) 40) _ (k .lengths)) in
+    let u = neither (onMove (c .users)) (onSwitch (c .users)) (k .unblocked) in
+    let n2 = neither _ (isUser (c .users) 0x1A) (u .1) in
+    let n1 = neither (isUser (c .users) 0x18) (isUser (c .users) 0x19) (n2 .0) in (
+      record {
+        codes = accepted-by _ _ _ _ c wanted asked k l (and-left (leb asked 39) _ (k .in-range)) (u .0);
+        switchable = record {
+          wanted-fonts-40 = m;
+          wanted-fonts-1 = fonts-up 1 fonts (and-right (leb asked 39) _ (k .in-range));
+          selected-1 = good c (k .formed) .font-1;
+          free18 = no-char c 0x18 refl (n1 .0);
+          free19 = no-char c 0x19 refl (n1 .1);
+          free1A = no-char c 0x1A refl (n2 .1);
+        };
+        fonts-40 = m;
+      },
+      ltb-false room 104 (k .room),
+    )
+
+-- what the accepted plans are for
+pub plan-delivers : (c : Condition) (wanted : List ℕ) (asked room : ℕ) → planRefusal c wanted asked room ≡ 0 → length (c .codes) ≡ 40 → length (c .fonts) ≡ 40
+    → Delivers c wanted asked (plan c wanted asked)
+plan-delivers c wanted asked room e lc lf = delivers c wanted asked (accepted c wanted asked room e .0 .plannable lc lf)
+
+pub fonts-plan-delivers : (c : Condition) (wanted fonts : List ℕ) (asked room : ℕ) → fontsRefusal c wanted fonts asked room ≡ 0 → length (c .codes) ≡ 40 → length (c .fonts) ≡ 40
+    → FontsDelivers c wanted fonts asked (fontsPlan c wanted fonts asked)
+fonts-plan-delivers c wanted fonts asked room e lc lf =
+    let t = fonts-accepted c wanted fonts asked room e .0 in
+    fonts-deliver c wanted fonts asked (t .codes .plannable lc lf) (t .switchable)
+
+-- and their room
+pub plan-fits : (c : Condition) (wanted : List ℕ) (asked room : ℕ) → 44 ≤ room → length (fontsPlan c wanted (replicate 40 (c .font)) asked) ≤ room
+plan-fits c wanted asked room r = omega (arith, ap length (one-font c wanted asked), plan-most c wanted asked)
+
+pub fonts-fit : (c : Condition) (wanted fonts : List ℕ) (asked room : ℕ) → FontsAccepted c wanted fonts asked → 104 ≤ room → length (fontsPlan c wanted fonts asked) ≤ room
+fonts-fit c wanted fonts asked room t r = omega (arith, fonts-most c wanted fonts asked (t .switchable .wanted-fonts-1) (t .codes .font-1))
+
+-- Answers -------------------------------------------------------------------------------------------------------------------------
 
 abbrev pub planned : ℕ → ℕ → Planned
 planned refusal n = record { refusal = refusal; length = n }
 
-module _ (c : Condition) (wanted : List ℕ) (asked : ℕ) (out : List ℕ) where
-  no-bytes : (planRefusal c wanted asked (length out) ≡ 0 → ⊥) → planBytes c wanted asked (length out) ≡ []
-  unfolding planBytes
-  no-bytes e = rw (ne-eqb (planRefusal c wanted asked (length out)) 0 e)
-
-  bytes : planRefusal c wanted asked (length out) ≡ 0 → planBytes c wanted asked (length out) ≡ plan c wanted asked
-  unfolding planBytes
-  bytes e = rw (eq-eqb (planRefusal c wanted asked (length out)) 0 e)
-
-  pub refused : (n : ℕ) → n ≡ planRefusal c wanted asked (length out) → (n ≡ 0 → ⊥) → Plans c wanted asked out out (planned n 0)
-  unfolding planAnswer planOut
+module _ (number : ℕ) (bytes : List ℕ) (For : List ℕ → Type 0) (out : List ℕ) where
+  pub refused : (n : ℕ) → n ≡ number → (n ≡ 0 → ⊥) → Promise number bytes For out out (planned n 0)
+  unfolding bytesBy
   refused n e z =
-      let b = no-bytes (λ (h : planRefusal c wanted asked (length out) ≡ 0). z (e ∙ h)) in
-      record { answer = rw (b, e); output = rw b; delivers = λ h. absurd (z h) }
+      let t = ne-eqb number 0 (λ (h : number ≡ 0). z (e ∙ h)) in
+      record { answer = rw (t, e); output = rw t; delivers = λ h. absurd (z h) }
 
-  pub taken-on : (after : List ℕ) (n : ℕ) → 0 ≡ planRefusal c wanted asked (length out) → length (c .codes) ≡ 40 → length (c .fonts) ≡ 40
-      → n ≡ length (planHere c wanted asked) → after ≡ atStart (planHere c wanted asked) out
-      → Plans c wanted asked out after (planned 0 n)
-  unfolding planAnswer planOut
-  taken-on after n e lc lf hn ho =
-      let b = bytes (sym e) in
-      let en : n ≡ length (plan c wanted asked) = rw (plan-in c wanted asked) hn in
-      let eo : after ≡ atStart (plan c wanted asked) out = rw (plan-in c wanted asked) ho in
-      record {
-        answer = rw (b, e, en);
-        output = rw b eo;
-        delivers = λ h. rw (en, eo, take-append-seam (plan c wanted asked) _) (delivers c wanted asked (accepted c wanted asked (length out) (sym e) .plannable lc lf));
-      }
+  pub taken-on : (after : List ℕ) (n : ℕ) → number ≡ 0 → For bytes → n ≡ length bytes → after ≡ atStart bytes out → Promise number bytes For out after (planned 0 n)
+  unfolding bytesBy
+  taken-on after n e d en eo =
+      record { answer = rw (e, en); output = rw e eo; delivers = λ h. rw (en, eo, take-append-seam bytes _) d }
 
--- two answers that the contract allows, and what they leave in the buffer, are the same
-pub one-plan : (c : Condition) (wanted : List ℕ) (asked : ℕ) (out a b : List ℕ) (r s : Planned) → Plans c wanted asked out a r → Plans c wanted asked out b s
-    → (r ≡ s) × (a ≡ b)
-one-plan c wanted asked out a b r s f g = (f .answer ∙ sym (g .answer), f .output ∙ sym (g .output))
+  -- two answers that a promise allows, and what they leave in the buffer, are the same
+  pub one-plan : (a b : List ℕ) (r s : Planned) → Promise number bytes For out a r → Promise number bytes For out b s → (r ≡ s) × (a ≡ b)
+  one-plan a b r s f g = (f .answer ∙ sym (g .answer), f .output ∙ sym (g .output))

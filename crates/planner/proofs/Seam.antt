@@ -1,7 +1,7 @@
 -- The glass is the module itself, where that is in mode 1 and reads the planner's steps.
 use mathlib.Core.Path.{_≡_, refl, sym, ap, _∙_}
 use mathlib.Core.Logic.{⊎-elim}
-use mathlib.Core.Bool.{Bool, true, false, cond, _&&_, _||_}
+use mathlib.Core.Bool.{Bool, true, false, cond, not, _&&_, _||_, or-false}
 use mathlib.Core.List.{List, [], _∷_}
 use Prim.Native.Nat.{ℕ, _<_}
 use native.Mathlib.Numerals.{add-one}
@@ -11,24 +11,54 @@ use lib.ListN.{set}
 use borrow.Author.Tests.{eqb-true, eq-eqb, leb-true}
 use Rattle.users.specs.Users.{isUser}
 use Rattle.condition.specs.declared.Condition.{Condition}
+use Rattle.condition.specs.declared.Pending.{Pending}
+use Rattle.condition.specs.declared.Pending.the-variants.{Nothing, Escape, Position}
 use Rattle.condition.specs.Condition.{idle}
-use Rattle.condition.specs.Set.{withCells, withCursor, withPending}
+use Rattle.condition.specs.Set.{withCells, withCursor, withPending, withFont, withEuro}
 use Rattle.condition.specs.Bytes as B
-use Rattle.condition.specs.Bytes.{isChar, escapeOf, stepOf, runOf}
+use Rattle.condition.specs.Bytes.{isChar, controlOf, escapeOf, stepOf, runOf}
 use Rattle.condition.specs.Steps.{stepByte, lowAfter, inOrder, readingOrder}
-use Rattle.moves.specs.Moves.{any, moves, next}
-use Rattle.moves.specs.Ways.{Half, none, escape, place}
+use Rattle.moves.specs.Moves.{any, moves, move, next}
 use Rattle.moves.proofs.Lists.{bool, clash, and-left, and-right}
 use Rattle.moves.proofs.Moving.{next-below, move-below}
-use Rattle.moves.proofs.Interpreter.{Ready, half, moves-to, escapes, writes, placed, is-move}
-use Rattle.planner.proofs.Glass.{Glass, glass, stepAt, step, run, allowed, lowAt, whole, ordered}
+use Rattle.moves.proofs.Interpreter.{Ready, moves-to, escapes, writes, placed, is-move}
+use Rattle.planner.specs.Fonts.{owed, fontByte, inFontOrder, fontOrder}
+use Rattle.planner.proofs.Glass.{Part, none, escape, place, back, Glass, glass, stepAt, step, run, allowed, lowAt, whole, ordered, by-kind}
+
+-- what of a condition stands for the part of a step that has come
+abbrev pub pendingAt : Part → Pending
+pendingAt none = Nothing
+pendingAt escape = Escape
+pendingAt place = Position
+pendingAt back = Nothing
+
+abbrev pub fontAt : Part → ℕ → ℕ
+fontAt none f = f
+fontAt escape f = f
+fontAt place f = f
+fontAt back f = 0
+
+abbrev pub markAt : Part → Bool → Bool
+markAt none m = m
+markAt escape m = m
+markAt place m = m
+markAt back m = false
 
 -- c with the planner's part from g
 abbrev pub embed : Condition → Glass → Condition
-embed c g = withPending (withCursor (withCells c (g .codes) (g .fonts)) (g .cursor)) (half (g .pend))
+embed c g =
+    withEuro (withFont (withPending (withCursor (withCells c (g .codes) (g .fonts)) (g .cursor)) (pendingAt (g .part))) (fontAt (g .part) (g .font)))
+    (markAt (g .part) (c .euro))
 
 abbrev pub glassOf : Condition → Glass
-glassOf c = glass none (c .cursor) (c .codes) (c .fonts)
+glassOf c = glass none (c .cursor) (c .font) (c .codes) (c .fonts)
+
+-- 1Ah is awaited
+abbrev owes : Part → Bool
+owes none = false
+owes escape = false
+owes place = false
+owes back = true
 
 no-user : (c : Condition) (b : ℕ) → isChar c b ≡ false → isUser (c .users) b ≡ false
 unfolding isChar
@@ -38,124 +68,198 @@ no-user c b e = left-false (isUser (c .users) b) (leb 0x20 b) e
     left-false true t h = h
     left-false false t h = refl
 
-module _ (c : Condition) (r : Ready c) where
-  embed-ready : (p : ℕ) (cs fs : List ℕ) → p < 40 → Ready (embed c (glass none p cs fs))
-  embed-ready p cs fs h = record { one = r .one; still = r .still; inside = h; whole = refl }
+no-char : (s t : Bool) → (not s && t) ≡ true → s ≡ false
+no-char true t x = sym x
+no-char false t x = refl
 
-  write-byte : (p : ℕ) (cs fs : List ℕ) (b : ℕ) → p < 40 → isChar c b ≡ true
-      → stepOf (embed c (glass none p cs fs)) b ≡ embed c (glass none (next p) (set cs p b) (set fs p (c .font)))
-  unfolding isChar
-  write-byte p cs fs b h e = writes (embed c (glass none p cs fs)) (embed-ready p cs fs h) b e
+module _ (switching : Bool) (c : Condition) (r : Ready c) where
+  abbrev goes : Part → ℕ → ℕ → List ℕ → List ℕ → ℕ → Glass
+  goes k p f cs fs b = stepAt switching (c .euro) (isChar c) k p f cs fs b
 
-  -- one byte of a reading-order string
-  same : (k : Half) (p lo : ℕ) (cs fs : List ℕ) (b : ℕ) → p < 40 → allowed (isChar c) (c .font) k p lo b ≡ true
-      → stepOf (embed c (glass k p cs fs)) b ≡ embed c (stepAt (isChar c) (c .font) k p cs fs b)
-  unfolding stepAt allowed B.stepAt escapeOf
-  same none p lo cs fs b h a =
-      let d = embed c (glass none p cs fs) in
-      let g = embed-ready p cs fs h in
-      ⊎-elim (λ (e : isChar c b ≡ true). rw e (write-byte p cs fs b h e))
-      (λ (e : isChar c b ≡ false).
-      ⊎-elim
-      (λ (z : eqb b 0x1B ≡ true). rw (e, z) (ap (stepOf d) (eqb-true b 0x1B z) ∙ escapes d g (ap (isUser (c .users)) (sym (eqb-true b 0x1B z)) ∙ no-user c b e)))
-      (λ (z : eqb b 0x1B ≡ false). let m : any (eqb b) moves ≡ true = rw (e, z) at a in
-      rw (e, z, m) (moves-to d g b m (no-user c b e)))
-      (bool (eqb b 0x1B)))
-      (bool (isChar c b))
-  same escape p lo cs fs b h a = rw (eqb-true b 0x48 a)
-  same place p lo cs fs b h a = rw a (placed (withCursor (withCells c cs fs) p) b (r .still) (let l = leb-true b 0x27 a in omega arith))
+  abbrev may : Part → ℕ → ℕ → ℕ → Bool
+  may k p lo b = allowed switching (c .euro) (isChar c) k p lo b
+
+  abbrev low : Part → ℕ → ℕ → ℕ → ℕ
+  low k p lo b = lowAt switching (c .euro) (isChar c) k p lo b
+
+  -- 1Ah is awaited only where switches are steps and the mark was on
+  abbrev Fits : Part → Type 0
+  Fits k = owes k ≡ true → (switching ≡ true) × (c .euro ≡ true)
+
+  embed-ready : (p f : ℕ) (cs fs : List ℕ) → p < 40 → Ready (embed c (glass none p f cs fs))
+  embed-ready p f cs fs h = record { one = r .one; still = r .still; inside = h; whole = refl }
+
+  -- a byte that is no character is a control
+  control : (p f : ℕ) (cs fs : List ℕ) (b : ℕ) → isChar c b ≡ false → stepOf (embed c (glass none p f cs fs)) b ≡ controlOf (embed c (glass none p f cs fs)) b
+  unfolding B.stepAt isChar
+  control p f cs fs b e = rw e
+
+  -- one byte of a string of steps
+  same : (k : Part) (p lo f : ℕ) (cs fs : List ℕ) (b : ℕ) → p < 40 → Fits k → may k p lo b ≡ true
+      → stepOf (embed c (glass k p f cs fs)) b ≡ embed c (goes k p f cs fs b)
+  unfolding stepAt allowed B.stepAt escapeOf controlOf isChar
+  same none p lo f cs fs b h m a =
+      let d = embed c (glass none p f cs fs) in
+      let g = embed-ready p f cs fs h in
+      by-kind switching (c .euro) (isChar c) (λ g l. stepOf d b ≡ embed c g) p lo f cs fs b a
+      (λ e l. writes d g b e)
+      (λ e z. ap (stepOf d) z ∙ escapes d g (ap (isUser (c .users)) (sym z) ∙ no-user c b e))
+      (λ e i. moves-to d g b i (no-user c b e))
+      (λ e s y. control p f cs fs b e ∙ ap (controlOf d) y)
+      (λ e s y k. control p f cs fs b e ∙ ap (controlOf d) y)
+      (λ e s y k. control p f cs fs b e ∙ ap (controlOf d) y ∙ (λ i. withEuro (withFont d 0) (sym k i)))
+  same escape p lo f cs fs b h m a = ap (stepOf (embed c (glass escape p f cs fs))) (eqb-true b 0x48 a)
+  same place p lo f cs fs b h m a = placed (withEuro (withFont (withCursor (withCells c cs fs) p) f) (c .euro)) b (r .still) (let l = leb-true b 0x27 a in omega arith)
+  same back p lo f cs fs b h m a =
+      let d = embed c (glass none p 0 cs fs) in
+      let e : isChar c b ≡ false = no-char (isChar c b) _ a in
+      ap (λ (t : Bool). stepOf (withEuro d t) b) refl
+      ∙ rw e (ap (λ (x : ℕ). controlOf (withEuro d false) x) (eqb-true b 0x1A (and-right (not (isChar c b)) _ a)) ∙ (λ i. withEuro d (sym (m refl .1) i)))
 
   -- and the cursor stays in its places
-  inside : (k : Half) (p lo : ℕ) (cs fs : List ℕ) (b : ℕ) → p < 40 → allowed (isChar c) (c .font) k p lo b ≡ true
-      → stepAt (isChar c) (c .font) k p cs fs b .cursor < 40
+  inside : (k : Part) (p lo f : ℕ) (cs fs : List ℕ) (b : ℕ) → p < 40 → may k p lo b ≡ true
+      → (goes k p f cs fs b .cursor < 40) × Fits (goes k p f cs fs b .part)
   unfolding stepAt allowed
-  inside none p lo cs fs b h a =
-      ⊎-elim (λ (e : isChar c b ≡ true). rw e (next-below p h))
-      (λ (e : isChar c b ≡ false).
-      ⊎-elim (λ (z : eqb b 0x1B ≡ true). rw (e, z) h)
-      (λ (z : eqb b 0x1B ≡ false). let m : any (eqb b) moves ≡ true = rw (e, z) at a in rw (e, z, m) (move-below b p h))
-      (bool (eqb b 0x1B)))
-      (bool (isChar c b))
-  inside escape p lo cs fs b h a = rw a h
-  inside place p lo cs fs b h a = let l = leb-true b 0x27 a in rw a (omega arith)
+  inside none p lo f cs fs b h a =
+      by-kind switching (c .euro) (isChar c) (λ g l. (g .cursor < 40) × Fits (g .part)) p lo f cs fs b a
+      (λ e l. (next-below p h, λ x. clash x refl))
+      (λ e z. (h, λ x. clash x refl))
+      (λ e i. (move-below b p h, λ x. clash x refl))
+      (λ e s y. (h, λ x. clash x refl))
+      (λ e s y k. (h, λ x. (s, k)))
+      (λ e s y k. (h, λ x. clash x refl))
+  inside escape p lo f cs fs b h a = (h, λ x. clash x refl)
+  inside place p lo f cs fs b h a = (let l = leb-true b 0x27 a in omega arith, λ x. clash x refl)
+  inside back p lo f cs fs b h a = (h, λ x. clash x refl)
 
-  -- a whole one
-  runs : (bs : List ℕ) (k : Half) (p lo : ℕ) (cs fs : List ℕ) → p < 40 → ordered (isChar c) (c .font) (glass k p cs fs) lo bs ≡ true
-      → runOf (embed c (glass k p cs fs)) bs ≡ embed c (run (isChar c) (c .font) (glass k p cs fs) bs)
+  -- a whole string
+  runs : (bs : List ℕ) (k : Part) (p lo f : ℕ) (cs fs : List ℕ) → p < 40 → Fits k
+      → ordered switching (c .euro) (isChar c) (glass k p f cs fs) lo bs ≡ true
+      → runOf (embed c (glass k p f cs fs)) bs ≡ embed c (run switching (c .euro) (isChar c) (glass k p f cs fs) bs)
   unfolding runOf
-  runs [] k p lo cs fs h o = refl
-  runs (b ∷ bs) k p lo cs fs h o =
-      let a = and-left (allowed (isChar c) (c .font) k p lo b) _ o in
-      let g = stepAt (isChar c) (c .font) k p cs fs b in
-      ap (λ (d : Condition). runOf d bs) (same k p lo cs fs b h a)
-      ∙ runs bs (g .pend) (g .cursor) (lowAt (isChar c) (c .font) k p lo b) (g .codes) (g .fonts) (inside k p lo cs fs b h a)
-      (and-right (allowed (isChar c) (c .font) k p lo b) _ o)
+  runs [] k p lo f cs fs h m o = refl
+  runs (b ∷ bs) k p lo f cs fs h m o =
+      let a = and-left (may k p lo b) _ o in
+      let g = goes k p f cs fs b in
+      let n = inside k p lo f cs fs b h a in
+      ap (λ (d : Condition). runOf d bs) (same k p lo f cs fs b h m a)
+      ∙ runs bs (g .part) (g .cursor) (low k p lo b) (g .font) (g .codes) (g .fonts) (n .0) (n .1) (and-right (may k p lo b) _ o)
 
-  -- the bytes that may come next are the same, and so is the lowest cell that may be written after them
-  next-byte : (k : Half) (p lo : ℕ) (cs fs : List ℕ) (b : ℕ)
-      → stepByte (half k) (embed c (glass k p cs fs)) lo b ≡ allowed (isChar c) (c .font) k p lo b
-  unfolding stepByte allowed isChar
-  next-byte none p lo cs fs b = ap (cond (isChar c b) (leb lo p)) (ap (λ (t : Bool). t || eqb b 0x1B) (is-move b) ∙ either (any (eqb b) moves) (eqb b 0x1B))
-    where
-      either : (s t : Bool) → (s || t) ≡ cond t true s
-      either true true = refl
-      either true false = refl
-      either false true = refl
-      either false false = refl
-  next-byte escape p lo cs fs b = refl
-  next-byte place p lo cs fs b = refl
+  -- the lowest cell that may be written after a byte is the same
+  next-low : (k : Part) (p lo f : ℕ) (cs fs : List ℕ) (b : ℕ) → may k p lo b ≡ true → lowAfter (embed c (glass k p f cs fs)) lo b ≡ low k p lo b
+  unfolding lowAfter lowAt allowed isChar
+  next-low none p lo f cs fs b a = ap (λ (n : ℕ). cond (isChar c b) n lo) (add-one p)
+  next-low escape p lo f cs fs b a = refl
+  next-low place p lo f cs fs b a = refl
+  next-low back p lo f cs fs b a = rw (no-char (isChar c b) _ a)
 
-  next-low : (k : Half) (p lo : ℕ) (cs fs : List ℕ) (b : ℕ)
-      → lowAfter (embed c (glass k p cs fs)) lo b ≡ lowAt (isChar c) (c .font) k p lo b
-  unfolding lowAfter lowAt isChar
-  next-low none p lo cs fs b = ap (λ (n : ℕ). cond (isChar c b) n lo) (add-one p)
-  next-low escape p lo cs fs b = refl
-  next-low place p lo cs fs b = refl
-
-  ends-whole : (k : Half) → idle (half k) ≡ whole k
-  unfolding whole
-  ends-whole none = refl
-  ends-whole escape = refl
-  ends-whole place = refl
-
-  -- the reading-order strings are the same
-  orders : (bs : List ℕ) (k : Half) (p lo : ℕ) (cs fs : List ℕ) → p < 40
-      → inOrder (embed c (glass k p cs fs)) lo bs ≡ ordered (isChar c) (c .font) (glass k p cs fs) lo bs
-  unfolding inOrder
-  orders [] k p lo cs fs h = ends-whole k
-  orders (b ∷ bs) k p lo cs fs h =
-      let g = stepAt (isChar c) (c .font) k p cs fs b in
-      rw (next-byte k p lo cs fs b, next-low k p lo cs fs b)
-      (and-same (allowed (isChar c) (c .font) k p lo b)
-      (λ a. ap (λ (d : Condition). inOrder d (lowAt (isChar c) (c .font) k p lo b) bs) (same k p lo cs fs b h a)
-      ∙ orders bs (g .pend) (g .cursor) (lowAt (isChar c) (c .font) k p lo b) (g .codes) (g .fonts) (inside k p lo cs fs b h a)))
-    where
-      and-same : (t : Bool) {x y : Bool} → (t ≡ true → x ≡ y) → (t && x) ≡ (t && y)
-      and-same true f = f refl
-      and-same false f = refl
+  -- and so are the strings, by any test of a string that ends so and takes each byte so
+  module _ (In : Condition → ℕ → List ℕ → Bool)
+      (ends-so : (k : Part) (p lo f : ℕ) (cs fs : List ℕ) → Fits k → In (embed c (glass k p f cs fs)) lo [] ≡ whole k)
+      (takes-so : (k : Part) (p lo f : ℕ) (cs fs : List ℕ) (b : ℕ) (bs : List ℕ) → Fits k → In (embed c (glass k p f cs fs)) lo (b ∷ bs)
+      ≡ (may k p lo b && In (stepOf (embed c (glass k p f cs fs)) b) (lowAfter (embed c (glass k p f cs fs)) lo b) bs)) where
+    orders : (bs : List ℕ) (k : Part) (p lo f : ℕ) (cs fs : List ℕ) → p < 40 → Fits k
+        → In (embed c (glass k p f cs fs)) lo bs ≡ ordered switching (c .euro) (isChar c) (glass k p f cs fs) lo bs
+    orders [] k p lo f cs fs h m = ends-so k p lo f cs fs m
+    orders (b ∷ bs) k p lo f cs fs h m =
+        let g = goes k p f cs fs b in
+        takes-so k p lo f cs fs b bs m
+        ∙ and-same (may k p lo b)
+        (λ a. let n = inside k p lo f cs fs b h a in
+        ap (λ (l : ℕ). In (stepOf (embed c (glass k p f cs fs)) b) l bs) (next-low k p lo f cs fs b a)
+        ∙ ap (λ (d : Condition). In d (low k p lo b) bs) (same k p lo f cs fs b h m a)
+        ∙ orders bs (g .part) (g .cursor) (low k p lo b) (g .font) (g .codes) (g .fonts) (n .0) (n .1))
+      where
+        and-same : (t : Bool) {x y : Bool} → (t ≡ true → x ≡ y) → (t && x) ≡ (t && y)
+        and-same true f = f refl
+        and-same false f = refl
 
   -- From c itself -----------------------------------------------------------------------------------------------------------
 
   embedded : c ≡ embed c (glassOf c)
   embedded = λ i. withPending c (r .whole i)
 
-  pub order-is : (bs : List ℕ) → readingOrder c bs ≡ ordered (isChar c) (c .font) (glassOf c) 0 bs
-  unfolding readingOrder
-  order-is bs =
-      rw (eq-eqb (c .mode) 1 (r .one)) (ap (λ (d : Condition). inOrder d 0 bs) embedded ∙ orders bs none (c .cursor) 0 (c .codes) (c .fonts) (r .inside))
+  pub run-is : (bs : List ℕ) → ordered switching (c .euro) (isChar c) (glassOf c) 0 bs ≡ true
+      → runOf c bs ≡ embed c (run switching (c .euro) (isChar c) (glassOf c) bs)
+  run-is bs o = ap (λ (d : Condition). runOf d bs) embedded ∙ runs bs none (c .cursor) 0 (c .font) (c .codes) (c .fonts) (r .inside) (λ x. clash x refl) o
 
-  pub run-is : (bs : List ℕ) → ordered (isChar c) (c .font) (glassOf c) 0 bs ≡ true
-      → runOf c bs ≡ embed c (run (isChar c) (c .font) (glassOf c) bs)
-  run-is bs o = ap (λ (d : Condition). runOf d bs) embedded ∙ runs bs none (c .cursor) 0 (c .codes) (c .fonts) (r .inside) o
+-- The strings of document 01's steps ---------------------------------------------------------------------------------------------
+
+module _ (c : Condition) (r : Ready c) where
+  plain-byte : (k : Part) (p lo f : ℕ) (cs fs : List ℕ) (b : ℕ) → Fits false c r k
+      → stepByte (pendingAt k) (embed c (glass k p f cs fs)) lo b ≡ allowed false (c .euro) (isChar c) k p lo b
+  unfolding stepByte allowed isChar
+  plain-byte none p lo f cs fs b m = ap (cond (isChar c b) (leb lo p)) (rw (is-move b) (either (any (eqb b) moves) (eqb b 0x1B)))
+    where
+      either : (m s : Bool) → (m || s) ≡ cond s true (cond m true false)
+      either true true = refl
+      either true false = refl
+      either false true = refl
+      either false false = refl
+  plain-byte escape p lo f cs fs b m = refl
+  plain-byte place p lo f cs fs b m = refl
+  plain-byte back p lo f cs fs b m = clash (m refl .0) refl
+
+  plain-ends : (k : Part) → Fits false c r k → idle (pendingAt k) ≡ whole k
+  unfolding whole
+  plain-ends none m = refl
+  plain-ends escape m = refl
+  plain-ends place m = refl
+  plain-ends back m = clash (m refl .0) refl
+
+  pub order-is : (bs : List ℕ) → readingOrder c bs ≡ ordered false (c .euro) (isChar c) (glassOf c) 0 bs
+  unfolding readingOrder inOrder
+  order-is bs =
+      rw (eq-eqb (c .mode) 1 (r .one))
+      (ap (λ (d : Condition). inOrder d 0 bs) (embedded false c r)
+      ∙ orders false c r inOrder (λ k p lo f cs fs m. plain-ends k m) (λ k p lo f cs fs b bs m. rw (plain-byte k p lo f cs fs b m)) bs none (c .cursor) 0 (c .font) (c .codes) (c .fonts) (r .inside) (λ x. clash x refl))
+
+  -- The strings of the larger set of steps ---------------------------------------------------------------------------------------
+
+  not-owed : (t : Bool) → (t && not t) ≡ false
+  not-owed true = refl
+  not-owed false = refl
+
+  font-byte : (k : Part) (p lo f : ℕ) (cs fs : List ℕ) (b : ℕ) → Fits true c r k
+      → fontByte (c .euro) (embed c (glass k p f cs fs)) lo b ≡ allowed true (c .euro) (isChar c) k p lo b
+  unfolding fontByte owed stepByte allowed isChar
+  font-byte none p lo f cs fs b m =
+      rw (not-owed (c .euro), is-move b) (by-char (isChar c b) (leb lo p) (any (eqb b) moves) (eqb b 0x1B) (eqb b 0x18 || eqb b 0x19))
+    where
+      by-char : (t l m s x : Bool) → (cond t l (m || s) || (not t && x)) ≡ cond t l (cond s true (cond m true x))
+      by-char true true m s x = refl
+      by-char true false m s x = refl
+      by-char false l true true x = refl
+      by-char false l true false x = refl
+      by-char false l false true x = refl
+      by-char false l false false x = refl
+  font-byte escape p lo f cs fs b m = rw (not-owed (c .euro)) (or-false (eqb b 0x48))
+  font-byte place p lo f cs fs b m = rw (not-owed (c .euro)) (or-false (leb b 0x27))
+  font-byte back p lo f cs fs b m = rw (m refl .1)
+
+  font-ends : (k : Part) (p f : ℕ) (cs fs : List ℕ) → Fits true c r k → (idle (pendingAt k) && not (owed (c .euro) (embed c (glass k p f cs fs)))) ≡ whole k
+  unfolding whole owed
+  font-ends none p f cs fs m = rw (not-owed (c .euro))
+  font-ends escape p f cs fs m = refl
+  font-ends place p f cs fs m = refl
+  font-ends back p f cs fs m = rw (m refl .1)
+
+  pub font-order-is : (bs : List ℕ) → fontOrder c bs ≡ ordered true (c .euro) (isChar c) (glassOf c) 0 bs
+  unfolding fontOrder inFontOrder
+  font-order-is bs =
+      rw (eq-eqb (c .mode) 1 (r .one))
+      (ap (λ (d : Condition). inFontOrder (c .euro) d 0 bs) (embedded true c r)
+      ∙ orders true c r (inFontOrder (c .euro)) (λ k p lo f cs fs m. font-ends k p f cs fs m) (λ k p lo f cs fs b bs m. rw (font-byte k p lo f cs fs b m)) bs none (c .cursor) 0 (c .font) (c .codes) (c .fonts) (r .inside) (λ x. clash x refl))
 
 -- a reading-order string leaves nothing half received
-whole-is : (k : Half) → whole k ≡ true → k ≡ none
+whole-is : (k : Part) → whole k ≡ true → k ≡ none
 unfolding whole
 whole-is none e = refl
 whole-is escape e = clash e refl
 whole-is place e = clash e refl
+whole-is back e = clash e refl
 
-pub ends : (chars : ℕ → Bool) (f : ℕ) (bs : List ℕ) (g : Glass) (lo : ℕ) → ordered chars f g lo bs ≡ true → run chars f g bs .pend ≡ none
-ends chars f [] g lo o = whole-is (g .pend) o
-ends chars f (b ∷ bs) g lo o =
-    ends chars f bs (step chars f g b) (lowAt chars f (g .pend) (g .cursor) lo b) (and-right (allowed chars f (g .pend) (g .cursor) lo b) _ o)
+pub ends : (switching mark : Bool) (chars : ℕ → Bool) (bs : List ℕ) (g : Glass) (lo : ℕ) → ordered switching mark chars g lo bs ≡ true → run switching mark chars g bs .part ≡ none
+ends switching mark chars [] g lo o = whole-is (g .part) o
+ends switching mark chars (b ∷ bs) g lo o =
+    ends switching mark chars bs (step switching mark chars g b) (lowAt switching mark chars (g .part) (g .cursor) lo b) (and-right (allowed switching mark chars (g .part) (g .cursor) lo b) _ o)

@@ -1,3 +1,3 @@
 pub mod Plan
-pub mod Parts
+pub mod Fonts
 pub mod Answer

@@ -1,12 +1,14 @@
 -- What the host's calls leave, by where they stop.
-use mathlib.Core.Path.{_≡_, refl, sym, ap, _∙_}
+use mathlib.Core.Path.{_≡_, refl, sym, ap, _∙_, subst}
+use mathlib.Core.Logic.{_⊎_, inl, inr, ⊎-elim}
 use mathlib.Core.Bool.{Bool, true, false, cond, not}
 use mathlib.Core.List.{List, [], _∷_, _++_, append-nil}
 use Prim.Native.Nat.{ℕ, _+_, _≤_, _<_}
 use native.Mathlib.Omega.{arith}
 use lib.Dec.{eqb, ltb, leb}
-use lib.ListN.{length, drop, drop-of-length-le}
-use borrow.Author.Tests.{eq-eqb, ne-eqb, leb-true}
+use lib.ListN.{length, take, drop}
+use borrow.Author.Tests.{eqb-true, eqb-false, eq-eqb, ne-eqb, leb-true}
+use Rattle.moves.proofs.Lists.{bool}
 use Rattle.condition.specs.declared.Condition.{Condition}
 use Rattle.condition.specs.declared.Outcome.{Outcome}
 use Rattle.condition.specs.Condition.{wellFormed, powerUp}
@@ -28,8 +30,8 @@ use Rattle.condition.specs.Bytes.{runOf}
 use Rattle.interpreter.specs.Run.{RunPromise, refusedOf, tallied, runRefusal, runAnswer}
 use Rattle.interpreter.proofs.Running.{sized-in}
 use Rattle.planner.specs.declared.Planned.{Planned}
-use Rattle.planner.specs.Answer.{planAnswer, planOut}
-use Rattle.sign.specs.Host.{tallyAt, tallyBytes, ranOf, hostRunRefusal, blockAfter, tallyAfter, HostRun, hostPlanRefusal, hostPlanAnswer, hostPlanOut, HostPlan, hostPowerUpRefusal, hostPowerUpOut, HostPowerUp}
+use Rattle.planner.specs.Answer.{bytesBy, Promise, Plans, PlansFonts}
+use Rattle.sign.specs.Host.{tallyAt, tallyBytes, ranOf, hostRunRefusal, blockAfter, tallyAfter, HostRun, hostRefusalBy, hostAnswer, HostPromise, hostPowerUpRefusal, hostPowerUpOut, HostPowerUp}
 
 -- a reading that is refused, or accepted
 read-refused : (b : List ℕ) (g : Outcome) → ReadPromise b g → g .refusal ≡ readRefusal b
@@ -101,45 +103,58 @@ module _ (b t bs : List ℕ) (g : Outcome) (x : Tally) (r : Ran) (h : length t �
       let twelve : length n ≡ 12 = ap length en in
       run-done b′ t′ good z (eb ∙ filled w b 512 long room ∙ ew) (et ∙ filled n t 12 twelve h ∙ en)
 
--- ---- the plan
+-- ---- the plans
 
-pub plan-short : (b w : List ℕ) (k : ℕ) (out : List ℕ) → (length w ≡ 40 → ⊥) → HostPlan b w k out (256 + 1) out
-unfolding hostPlanAnswer hostPlanRefusal hostPlanOut
-plan-short b w k out h = let e = ne-eqb (length w) 40 h in record { answer = simp e; buffer = simp e }
+-- a call that is refused for its lengths, or for the block, or by the planner
+module _ (b : List ℕ) (n : ℕ) (bytes : List ℕ) (For : List ℕ → Type 0) (out : List ℕ) (long : Bool) where
+  -- the refusal number of the call, and an answer by it
+  refused-by : (number m : ℕ) → m ≡ number → (m ≡ 0 → ⊥) → HostPromise number bytes For out (256 + m) out
+  unfolding hostAnswer bytesBy
+  refused-by number m e z =
+      let t = ne-eqb number 0 (λ (h : number ≡ 0). z (e ∙ h)) in
+      record { answer = rw (t, e); buffer = rw t; delivers = λ l. absurd (omega arith) }
 
-pub plan-unread : (b w : List ℕ) (k : ℕ) (out : List ℕ) (g : Outcome) → length w ≡ 40 → ReadPromise b g → (g .refusal ≡ 0 → ⊥)
-    → HostPlan b w k out (256 + g .refusal) out
-unfolding hostPlanAnswer hostPlanRefusal hostPlanOut
-plan-unread b w k out g h p bad =
-    let e₁ = eq-eqb (length w) 40 h in
-    let e₂ : eqb (readRefusal b) 0 ≡ false = rw (read-refused b g p) at (ne-eqb (g .refusal) 0 bad) in
-    record { answer = simp (e₁, e₂, read-refused b g p); buffer = simp (e₁, e₂) }
+  pub plan-short : long ≡ false → HostPromise (hostRefusalBy long b n) bytes For out (256 + 1) out
+  unfolding hostRefusalBy
+  plan-short e = refused-by _ 1 (rw e) (λ z. omega arith)
 
-module _ (b w : List ℕ) (k : ℕ) (out : List ℕ) (g : Outcome) (r : Planned) (left : List ℕ) (h : length w ≡ 40) (p : ReadPromise b g)
-    (ok : g .refusal ≡ 0) (er : r ≡ planAnswer (g .condition) w k out) (eo : left ≡ planOut (g .condition) w k out) where
-  planned : r ≡ planAnswer (conditionIn b) w k out
-  planned = er ∙ ap (λ (c : Condition). planAnswer c w k out) (read-taken b g p ok)
+  module _ (g : Outcome) (fit : long ≡ true) (p : ReadPromise b g) where
+    pub plan-unread : (g .refusal ≡ 0 → ⊥) → HostPromise (hostRefusalBy long b n) bytes For out (256 + g .refusal) out
+    unfolding hostRefusalBy
+    plan-unread bad =
+        let t : eqb (readRefusal b) 0 ≡ false = rw (read-refused b g p) at (ne-eqb (g .refusal) 0 bad) in
+        refused-by _ (g .refusal) (rw (fit, t) (read-refused b g p)) bad
 
-  left-there : left ≡ hostPlanOut b w k out
-  unfolding hostPlanOut
-  left-there =
-      simp (eq-eqb (length w) 40 h, rw (read-refused b g p) at (eq-eqb (g .refusal) 0 ok))
-      (eo ∙ ap (λ (c : Condition). planOut c w k out) (read-taken b g p ok))
+    number-is : g .refusal ≡ 0 → hostRefusalBy long b n ≡ n
+    unfolding hostRefusalBy
+    number-is ok = rw (fit, rw (read-refused b g p) at (eq-eqb (g .refusal) 0 ok))
 
-  refusal-there : r .refusal ≡ hostPlanRefusal b w k out
-  unfolding hostPlanRefusal
-  refusal-there =
-      simp (eq-eqb (length w) 40 h, rw (read-refused b g p) at (eq-eqb (g .refusal) 0 ok)) (ap (λ (y : Planned). y .refusal) planned)
+    -- what the planner promises, given on
+    pub plan-done : (r : Planned) (k : ℕ) (left : List ℕ) → g .refusal ≡ 0 → Promise n bytes For out left r → k ≡ hostAnswer (r .refusal) (r .length)
+        → HostPromise (hostRefusalBy long b n) bytes For out k left
+    unfolding hostAnswer bytesBy
+    plan-done r k left ok q e =
+        rw (number-is ok)
+        (⊎-elim (λ (z : n ≡ 0). let ra : r .refusal ≡ 0 = ap (λ (y : Planned). y .refusal) (q .answer) ∙ z in
+        let rl : r .length ≡ length bytes = ap (λ (y : Planned). y .length) (q .answer) ∙ rw (eq-eqb n 0 z) in
+        let ek : k ≡ r .length = e ∙ rw (eq-eqb (r .refusal) 0 ra) in
+        record { answer = rw (eq-eqb n 0 z) (ek ∙ rl); buffer = q .output; delivers = λ l. rw ek (q .delivers ra) })
+        (λ (z : n ≡ 0 → ⊥). let ra : r .refusal ≡ n = ap (λ (y : Planned). y .refusal) (q .answer) in
+        let ek : k ≡ 256 + n = e ∙ rw (ne-eqb (r .refusal) 0 (λ (h : r .refusal ≡ 0). z (sym ra ∙ h)), ra) in
+        record { answer = rw (ne-eqb n 0 z) ek; buffer = q .output; delivers = λ l. absurd (omega arith) })
+        (zero-or n))
+      where
+        zero-or : (n : ℕ) → (n ≡ 0) ⊎ (n ≡ 0 → ⊥)
+        zero-or n = ⊎-elim (λ (e : eqb n 0 ≡ true). inl (eqb-true n 0 e)) (λ (e : eqb n 0 ≡ false). inr (eqb-false n 0 e)) (bool (eqb n 0))
 
-  pub plan-stopped : (r .refusal ≡ 0 → ⊥) → HostPlan b w k out (256 + r .refusal) left
-  unfolding hostPlanAnswer
-  plan-stopped bad =
-      record { answer = rw (← refusal-there, ne-eqb (r .refusal) 0 bad); buffer = left-there }
+-- the planner's promise of the condition that was read, as one of the condition in the block
+pub plan-read : (b w : List ℕ) (k : ℕ) (out left : List ℕ) (g : Outcome) (r : Planned) → ReadPromise b g → g .refusal ≡ 0
+    → Plans (g .condition) w k out left r → Plans (conditionIn b) w k out left r
+plan-read b w k out left g r p ok q = subst (λ (c : Condition). Plans c w k out left r) (read-taken b g p ok) q
 
-  pub plan-done : r .refusal ≡ 0 → HostPlan b w k out (r .length) left
-  unfolding hostPlanAnswer
-  plan-done good =
-      record { answer = rw (← refusal-there, eq-eqb (r .refusal) 0 good) (ap (λ (y : Planned). y .length) planned); buffer = left-there }
+pub fonts-read : (b w f : List ℕ) (k : ℕ) (out left : List ℕ) (g : Outcome) (r : Planned) → ReadPromise b g → g .refusal ≡ 0
+    → PlansFonts (g .condition) w f k out left r → PlansFonts (conditionIn b) w f k out left r
+fonts-read b w f k out left g r p ok q = subst (λ (c : Condition). PlansFonts c w f k out left r) (read-taken b g p ok) q
 
 -- ---- power-up
 
@@ -157,7 +172,7 @@ power-up-refused font out g e bad = go (leb font 1) refl
   where
     go : (t : Bool) → leb font 1 ≡ t → HostPowerUp font out (g .refusal) out
     go true h = absurd (bad (ap (λ (o : Outcome). o .refusal) (e ∙ powered font h)))
-    go false h = record { answer = simp h (ap (λ (o : Outcome). o .refusal) (e ∙ unpowered font h)); buffer = simp h }
+    go false h = record { answer = simp h (ap (λ (o : Outcome). o .refusal) (e ∙ unpowered font h)); buffer = simp h; again = λ z. absurd (bad z) }
 
 -- what writing power-up gives, where the font is 0 or 1
 power-up-out : (font : ℕ) (out : List ℕ) (r : Written) (left : List ℕ) → leb font 1 ≡ true → WritePromise (powerUp font) out r left
@@ -168,6 +183,7 @@ power-up-out font out r left h w =
     record {
       answer = simp h (ap (λ (o : Written). o .refusal) (w .answer) ∙ simp f);
       buffer = simp h (w .buffer ∙ simp f);
+      again = λ z. sym (refusal-of (take 512 left)) ∙ ap (λ (o : Outcome). o .refusal) (w .back z);
     }
 
 pub power-up-written : (font : ℕ) (out : List ℕ) (g : Outcome) (r : Written) (left : List ℕ) → g ≡ powerUpAnswer font → g .refusal ≡ 0
@@ -186,8 +202,9 @@ power-up-written font out g r left e good w = go (leb font 1) refl
 pub one-host-run : (b t bs : List ℕ) (r s : ℕ) (x y u v : List ℕ) → HostRun b t bs r x u → HostRun b t bs s y v → (r ≡ s) × (x ≡ y) × (u ≡ v)
 one-host-run b t bs r s x y u v p q = (p .answer ∙ sym (q .answer), p .block ∙ sym (q .block), p .tally ∙ sym (q .tally))
 
-pub one-host-plan : (b w : List ℕ) (k : ℕ) (out : List ℕ) (r s : ℕ) (x y : List ℕ) → HostPlan b w k out r x → HostPlan b w k out s y → (r ≡ s) × (x ≡ y)
-one-host-plan b w k out r s x y p q = (p .answer ∙ sym (q .answer), p .buffer ∙ sym (q .buffer))
+pub one-host-plan : (number : ℕ) (bytes : List ℕ) (For : List ℕ → Type 0) (out : List ℕ) (r s : ℕ) (x y : List ℕ)
+    → HostPromise number bytes For out r x → HostPromise number bytes For out s y → (r ≡ s) × (x ≡ y)
+one-host-plan number bytes For out r s x y p q = (p .answer ∙ sym (q .answer), p .buffer ∙ sym (q .buffer))
 
 pub one-host-power-up : (font : ℕ) (out : List ℕ) (r s : ℕ) (x y : List ℕ) → HostPowerUp font out r x → HostPowerUp font out s y → (r ≡ s) × (x ≡ y)
 one-host-power-up font out r s x y p q = (p .answer ∙ sym (q .answer), p .buffer ∙ sym (q .buffer))

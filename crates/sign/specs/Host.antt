@@ -1,10 +1,10 @@
 -- What the C host program's calls answer and leave (document 01, Refusal numbers and their order): the same as reading the block, running
 -- or planning, and writing back.
-use Prim.Native.Nat.{ℕ, _+_, _*_, _%_, _/_}
+use Prim.Native.Nat.{ℕ, _+_, _*_, _%_, _/_, _<_}
 use mathlib.Core.Path.{_≡_}
-use mathlib.Core.Bool.{Bool, true, false, cond, not}
+use mathlib.Core.Bool.{Bool, cond, not, _&&_}
 use mathlib.Core.List.{List, [], _∷_, _++_}
-use lib.ListN.{length, getD, drop}
+use lib.ListN.{length, getD, take, drop}
 use lib.Dec.{eqb, ltb, leb}
 use Rattle.condition.specs.declared.Condition.{Condition}
 use Rattle.condition.specs.Condition.{powerUp}
@@ -14,8 +14,9 @@ use Rattle.block.specs.Reading.{readRefusal}
 use Rattle.interpreter.specs.declared.Tally.{Tally}
 use Rattle.interpreter.specs.declared.Ran.{Ran}
 use Rattle.interpreter.specs.Run.{runAnswer}
-use Rattle.planner.specs.declared.Planned.{Planned}
-use Rattle.planner.specs.Answer.{planAnswer, planOut}
+use Rattle.planner.specs.Plan.{plan, Delivers}
+use Rattle.planner.specs.Fonts.{fontsPlan, FontsDelivers}
+use Rattle.planner.specs.Answer.{planRefusal, fontsRefusal, outBy}
 
 -- The tally as four-byte numbers, low byte first -------------------------------------------------------------------------
 
@@ -60,28 +61,37 @@ pub record HostRun (b t bs : List ℕ) (r : ℕ) (b′ t′ : List ℕ) : Type 0
 
 -- Plan --------------------------------------------------------------------------------------------------------------------
 
--- 1: a block not 512 bytes or wanted codes not 40; 2 and 3: as reading the block; 3, 6 to 10: as the plan
+-- 1: a block not 512 bytes or what is wanted not 40; 2 and 3: as reading the block; 3, 6 to 10: as the planner, which gives n
+unfoldable pub hostRefusalBy : Bool → List ℕ → ℕ → ℕ
+hostRefusalBy long b n = cond (not long) 1 (cond (not (eqb (readRefusal b) 0)) (readRefusal b) n)
+
 unfoldable pub hostPlanRefusal : List ℕ → List ℕ → ℕ → List ℕ → ℕ
-hostPlanRefusal b codes cursor out =
-    cond (not (eqb (length codes) 40)) 1
-    (cond (not (eqb (readRefusal b) 0)) (readRefusal b)
-    (planAnswer (conditionIn b) codes cursor out .refusal))
+hostPlanRefusal b codes cursor out = hostRefusalBy (eqb (length codes) 40) b (planRefusal (conditionIn b) codes cursor (length out))
 
--- plan answers its length, or 256 plus the refusal
-unfoldable pub hostPlanAnswer : List ℕ → List ℕ → ℕ → List ℕ → ℕ
-hostPlanAnswer b codes cursor out =
-    cond (eqb (hostPlanRefusal b codes cursor out) 0)
-    (planAnswer (conditionIn b) codes cursor out .length)
-    (256 + hostPlanRefusal b codes cursor out)
+unfoldable pub hostFontsRefusal : List ℕ → List ℕ → List ℕ → ℕ → List ℕ → ℕ
+hostFontsRefusal b codes fonts cursor out =
+    hostRefusalBy (eqb (length codes) 40 && eqb (length fonts) 40) b (fontsRefusal (conditionIn b) codes fonts cursor (length out))
 
--- what the plan leaves in the buffer (a refused one leaves it as it was); nothing changes where the codes or the block are refused
-unfoldable pub hostPlanOut : List ℕ → List ℕ → ℕ → List ℕ → List ℕ
-hostPlanOut b codes cursor out =
-    cond (not (eqb (length codes) 40)) out (cond (not (eqb (readRefusal b) 0)) out (planOut (conditionIn b) codes cursor out))
+-- a plan answers its length, or 256 plus the refusal
+unfoldable pub hostAnswer : ℕ → ℕ → ℕ
+hostAnswer refusal n = cond (eqb refusal 0) n (256 + refusal)
 
-pub record HostPlan (b codes : List ℕ) (cursor : ℕ) (out : List ℕ) (r : ℕ) (left : List ℕ) : Type 0 where
-  pub answer : r ≡ hostPlanAnswer b codes cursor out
-  pub buffer : left ≡ hostPlanOut b codes cursor out
+-- The answer r of a plan and what it leaves in the buffer, by its refusal number and its bytes: a refused one leaves it as it was, and an
+-- answer below 256 says that so many bytes stand at its start, which are what the plan is for
+pub record HostPromise (number : ℕ) (bytes : List ℕ) (For : List ℕ → Type 0) (out : List ℕ) (r : ℕ) (left : List ℕ) : Type 0 where
+  pub answer : r ≡ hostAnswer number (length bytes)
+  pub buffer : left ≡ outBy number bytes out
+  pub delivers : r < 256 → For (take r left)
+
+-- what `sign_plan` promises
+abbrev pub HostPlan : List ℕ → List ℕ → ℕ → List ℕ → ℕ → List ℕ → Type 0
+HostPlan b codes cursor out r left =
+    HostPromise (hostPlanRefusal b codes cursor out) (plan (conditionIn b) codes cursor) (Delivers (conditionIn b) codes cursor) out r left
+
+-- what `sign_plan_fonts` promises
+abbrev pub HostFonts : List ℕ → List ℕ → List ℕ → ℕ → List ℕ → ℕ → List ℕ → Type 0
+HostFonts b codes fonts cursor out r left =
+    HostPromise (hostFontsRefusal b codes fonts cursor out) (fontsPlan (conditionIn b) codes fonts cursor) (FontsDelivers (conditionIn b) codes fonts cursor) out r left
 
 -- Power-up ----------------------------------------------------------------------------------------------------------------
 
@@ -92,6 +102,8 @@ hostPowerUpRefusal font out = cond (not (leb font 1)) 3 (cond (ltb (length out) 
 unfoldable pub hostPowerUpOut : ℕ → List ℕ → List ℕ
 hostPowerUpOut font out = cond (eqb (hostPowerUpRefusal font out) 0) (blockOf (powerUp font) ++ drop 512 out) out
 
+-- What is written is accepted by the other calls.
 pub record HostPowerUp (font : ℕ) (out : List ℕ) (r : ℕ) (left : List ℕ) : Type 0 where
   pub answer : r ≡ hostPowerUpRefusal font out
   pub buffer : left ≡ hostPowerUpOut font out
+  pub again : r ≡ 0 → readRefusal (take 512 left) ≡ 0

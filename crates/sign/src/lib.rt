@@ -2,9 +2,10 @@
 ghost use mathlib.Core.Path.{_≡_};
 ghost use Prim.Native.Nat.{_+_, _*_, _/_, _%_, _≤_, _<_};
 ghost use lib.ListN.{length};
-ghost use Rattle.sign.specs.Host.{numberAt, fourBytes, tallyAt, tallyBytes, HostRun, HostPlan, HostPowerUp};
+ghost use Rattle.sign.specs.Host.{numberAt, fourBytes, tallyAt, tallyBytes, hostAnswer, HostRun, HostPlan, HostFonts, HostPowerUp};
 use condition::Condition;
 use interpreter::Tally;
+use planner::Planned;
 
 fn wide(x: u8) -> u32
     ensures { λ r. ⌜ r ≡ x ⌝ }
@@ -111,7 +112,17 @@ fn refused(n: u8) -> u32
     256 + (n as u32)
 }
 
-// Plans on the block that is lent; answers the plan's length, or 256 plus the refusal.
+// A planner's answer as a number: the plan's length, or 256 plus the refusal.
+fn answer(p: Planned) -> u32
+    ensures { λ r. ⌜ r ≡ hostAnswer (p .refusal) (p .length) ⌝ }
+{
+    if p.refusal != 0 {
+        return refused(p.refusal);
+    }
+    wide(p.length)
+}
+
+// Plans in the selected font on the block that is lent; answers the plan's length, or 256 plus the refusal.
 #[no_mangle]
 pub extern "C" fn sign_plan(block: &[u8], codes: &[u8], cursor: u32, out: &mut [u8]) -> u32
     ensures { λ r. ⌜ HostPlan (now (block .entry)) (now (codes .entry)) cursor (now (out .entry)) r (now (out .exit)) ⌝ }
@@ -125,10 +136,31 @@ pub extern "C" fn sign_plan(block: &[u8], codes: &[u8], cursor: u32, out: &mut [
     }
     let c = got.condition;
     let p = planner::plan(c, codes, cursor, out);
-    if p.refusal != 0 {
-        return refused(p.refusal);
+    answer(p)
+}
+
+// Plans in two fonts on the block that is lent; answers the plan's length, or 256 plus the refusal.
+#[no_mangle]
+pub extern "C" fn sign_plan_fonts(
+    block: &[u8],
+    codes: &[u8],
+    fonts: &[u8],
+    cursor: u32,
+    out: &mut [u8],
+) -> u32
+    ensures { λ r. ⌜ HostFonts (now (block .entry)) (now (codes .entry)) (now (fonts .entry)) cursor (now (out .entry)) r (now (out .exit)) ⌝ }
+{
+    let long = (codes.len() == 40) & (fonts.len() == 40);
+    if !long {
+        return refused(1);
     }
-    wide(p.length)
+    let got = block::read(block);
+    if got.refusal != 0 {
+        return refused(got.refusal);
+    }
+    let c = got.condition;
+    let p = planner::plan_fonts(c, codes, fonts, cursor, out);
+    answer(p)
 }
 
 // Writes the power-up block for a default font; answers 0 or the refusal.

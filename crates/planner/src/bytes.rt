@@ -1,0 +1,86 @@
+// The bytes of a plan.
+use crate::ways::put_way;
+use condition::Condition;
+ghost use mathlib.Core.Path.{_≡_};
+ghost use mathlib.Core.List.{[], _∷_, _++_};
+ghost use mathlib.Core.Bool.{_&&_, not};
+ghost use Prim.Native.Nat.{_+_, _<_, _≤_};
+ghost use lib.Dec.{eqb};
+ghost use lib.ListN.{length};
+ghost use lib.Seq.{sets};
+ghost use Rattle.moves.specs.Moves.{Numbers};
+ghost use Rattle.planner.specs.Plan.{atStart};
+ghost use Rattle.planner.specs.Fonts.{switch, fontsPlan};
+
+fn differs(code: u8, font: u8, wanted: u8, selected: u8) -> bool
+    ensures { λ r. ⌜ r ≡ not (eqb code wanted && eqb font selected) ⌝ }
+{
+    !((code == wanted) & (font == selected))
+}
+
+// Puts the switch from a font to another at k; answers the place behind it.
+fn put_switch(out: &mut [u8], k: usize, euro: bool, from: u8, to: u8) -> usize
+    requires { ⌜ k + length (switch euro from to) ≤ length (now out) ⌝ }
+    ensures { λ r. ⌜ (r ≡ k + length (switch euro from to)) × (now (out .exit) ≡ sets (now (out .entry)) k (switch euro from to)) ⌝ }
+{
+    if from == to {
+        return k;
+    }
+    if to == 1 {
+        out[k] = 0x19;
+        return k + 1;
+    }
+    out[k] = 0x18;
+    if euro {
+        out[k + 1] = 0x1A;
+        return k + 2;
+    }
+    k + 1
+}
+
+// Puts a code at k, and ahead of it the switch that it needs; answers the place behind it.
+fn put_code(out: &mut [u8], k: usize, euro: bool, from: u8, to: u8, code: u8) -> usize
+    requires { ⌜ k + length (switch euro from to ++ code ∷ []) ≤ length (now out) ⌝ }
+    ensures { λ r. ⌜ (r ≡ k + length (switch euro from to ++ code ∷ []))
+        × (now (out .exit) ≡ sets (now (out .entry)) k (switch euro from to ++ code ∷ [])) ⌝ }
+{
+    let at = put_switch(out, k, euro, from, to);
+    out[at] = code;
+    at + 1
+}
+
+// Puts the plan for the wanted codes in the wanted fonts at the start of out; answers its length.
+pub(crate) fn put_plan(
+    table: &[[u8; 40]; 40],
+    c: Condition,
+    wanted: &[u8],
+    fonts: &[u8],
+    asked: u8,
+    out: &mut [u8],
+) -> usize
+    requires { ⌜ (length (now wanted) ≡ 40) × (length (now fonts) ≡ 40) × (c .cursor < 40) × (asked < 40)
+        × (length (fontsPlan c (now wanted) (now fonts) asked) ≤ length (now out)) × Numbers (now table) ⌝ }
+    ensures { λ r. ⌜ (r ≡ length (fontsPlan c (now (wanted .entry)) (now (fonts .entry)) asked))
+        × (now (out .exit) ≡ atStart (fontsPlan c (now (wanted .entry)) (now (fonts .entry)) asked) (now (out .entry))) ⌝ }
+{
+    let codes = c.codes;
+    let shown = c.fonts;
+    let euro = c.euro;
+    let mut p = c.cursor;
+    let mut selected = c.font;
+    let mut k: usize = 0;
+    let mut i: u8 = 0;
+    while i < 40 {
+        let j = i as usize;
+        let code = wanted[j];
+        let font = fonts[j];
+        if differs(codes[j], shown[j], code, font) {
+            let at = put_way(table, out, k, p, i);
+            k = put_code(out, at, euro, selected, font, code);
+            p = moves::next(i);
+            selected = font;
+        }
+        i += 1;
+    }
+    put_way(table, out, k, p, asked)
+}
