@@ -1,11 +1,11 @@
-/* The fourteen cases of the bench sheet (document 01) through the three C functions, and one refusal of
-   each number. Prints ok, or what failed. */
+/* The fourteen cases of the bench sheet (document 01), pictures of two fonts (request W1), and one refusal of
+   each number, through the four C functions. Prints ok, or what failed. */
 
 #include <stdio.h>
 #include <string.h>
 #include "sign.h"
 
-static uint8_t block[SIGN_BLOCK], tally[SIGN_TALLY], out[SIGN_ROOM], want[SIGN_CELLS];
+static uint8_t block[SIGN_BLOCK], tally[SIGN_TALLY], out[SIGN_FONTS_ROOM], want[SIGN_CELLS], fonts[SIGN_CELLS];
 static int failures;
 
 static void check(const char *what, int holds) {
@@ -43,7 +43,11 @@ static int written(void) {
 
 static uint32_t plan(uint32_t asked) {
     memset(out, 0xEE, sizeof out);
-    return sign_plan(block, sizeof block, want, sizeof want, asked, out, sizeof out);
+    return sign_plan(block, sizeof block, want, sizeof want, asked, out, SIGN_ROOM);
+}
+static uint32_t plan_fonts(uint32_t asked) {
+    memset(out, 0xEE, sizeof out);
+    return sign_plan_fonts(block, sizeof block, want, sizeof want, fonts, sizeof fonts, asked, out, sizeof out);
 }
 static int planned(uint32_t n, const uint8_t *bytes, size_t length) {
     int rest = 1;
@@ -115,6 +119,94 @@ static void bench_sheet(void) {
     check("14", planned(plan(19), fourteen, sizeof fourteen));
 }
 
+/* A blank picture but for the first four cells: 41h to 44h, the first and third in Katakana. */
+static void four_cells(void) {
+    memset(want, 0x20, sizeof want);
+    memset(fonts, 0, sizeof fonts);
+    memcpy(want, "\x41\x42\x43\x44", 4);
+    fonts[0] = fonts[2] = 1;
+}
+
+static void two_fonts(void) {
+    four_cells();
+    const uint8_t with_euro[] = {0x19, 0x41, 0x18, 0x1A, 0x42, 0x19, 0x43, 0x18, 0x1A, 0x44};
+    AFTER(0x1A);
+    check("fonts: there and back with Euro on", planned(plan_fonts(4), with_euro, sizeof with_euro));
+    check("fonts: run", run(with_euro, sizeof with_euro) == 0 && memcmp(block + 24, want, 40) == 0);
+    check("fonts: shown", memcmp(block + 64, fonts, 40) == 0 && cursor() == 4 && block[7] == 0 && block[9] == 1);
+    check("fonts: planned again", planned(plan_fonts(4), with_euro, 0));
+
+    const uint8_t without[] = {0x19, 0x41, 0x18, 0x42, 0x19, 0x43, 0x18, 0x44};
+    after(want, 0);
+    check("fonts: there and back with Euro off", planned(plan_fonts(4), without, sizeof without));
+
+    /* Katakana is selected and the cells are International: nothing is wrong */
+    AFTER(0x19, 0x1B, 0x48, 0x14);
+    memset(want, 0x20, sizeof want);
+    memset(fonts, 0, sizeof fonts);
+    const uint8_t moves[] = {0x1B, 0x48, 0x13};
+    check("fonts: only moves", planned(plan_fonts(19), moves, sizeof moves));
+    want[20] = 0x41;
+    const uint8_t back[] = {0x18, 0x41};
+    check("fonts: the first switch goes back", planned(plan_fonts(21), back, sizeof back));
+
+    /* the longest: every cell needs a switch */
+    AFTER(0x1A, 0x1B, 0x48, 0x05);
+    uint8_t longest[104] = {0x0C};
+    memset(want, 0x41, sizeof want);
+    for (int i = 0; i < 20; i++) {
+        fonts[2 * i] = 1;
+        memcpy(longest + 1 + 5 * i, "\x19\x41\x18\x1A\x41", 5);
+    }
+    memcpy(longest + 101, "\x1B\x48\x27", 3);
+    check("fonts: 104 bytes", planned(plan_fonts(39), longest, sizeof longest));
+
+    /* the selected font everywhere: the bytes of sign_plan */
+    uint8_t one_font[SIGN_ROOM];
+    memset(fonts, 0, sizeof fonts);
+    uint32_t n = plan(39);
+    memcpy(one_font, out, sizeof one_font);
+    check("fonts: one font", n == 44 && planned(plan_fonts(39), one_font, n));
+}
+
+/* The refusal of sign_plan_fonts with one byte too little room. */
+static uint32_t refused(size_t block_len, size_t codes_len, size_t fonts_len, uint32_t asked) {
+    return sign_plan_fonts(block, block_len, want, codes_len, fonts, fonts_len, asked, out, SIGN_FONTS_ROOM - 1) - 256;
+}
+
+/* Each number where much that has a higher one is wrong too. */
+static void fonts_refusals(void) {
+    uint8_t kept[SIGN_BLOCK];
+    four_cells();
+    want[7] = 0x1F;
+    fonts[8] = 2;
+    memset(out, 0xEE, sizeof out);
+    AFTER(0x1B, 0x43, 0x19, 0, 0, 0, 0, 0, 0x12, 0x1B);
+    block[500] = 1;
+    check("fonts 1: fonts", refused(512, 40, 39, 40) == 1 && refused(512, 40, 41, 40) == 1 && refused(512, 40, 0, 40) == 1);
+    check("fonts 1", refused(511, 40, 40, 40) == 1 && refused(512, 39, 40, 40) == 1);
+    check("fonts 2", refused(512, 40, 40, 40) == 2);
+    block[500] = 0;
+    memcpy(kept, block, sizeof kept);
+    check("fonts 3: font", refused(512, 40, 40, 0) == 3);
+    fonts[8] = 0;
+    check("fonts 3: cursor", refused(512, 40, 40, 40) == 3);
+    check("fonts 6", refused(512, 40, 40, 0) == 6);
+    check("fonts: the block stays", memcmp(block, kept, sizeof kept) == 0);
+    AFTER(0x1B, 0x43, 0x19, 0, 0, 0, 0, 0, 0x12);
+    check("fonts 7", refused(512, 40, 40, 0) == 7);
+    for (uint8_t code = 0x17; code <= 0x1A; code++) {
+        AFTER(0x1B, 0x43, code, 0, 0, 0, 0, 0);
+        check("fonts 8 for 18h, 19h and 1Ah", refused(512, 40, 40, 0) == (code == 0x17 ? 9 : 8));
+    }
+    after(want, 0);
+    check("fonts 9", refused(512, 40, 40, 0) == 9);
+    want[7] = 0x20;
+    check("fonts 10", refused(512, 40, 40, 0) == 10);
+    check("fonts: out stays", planned(0, out, 0));
+    check("fonts: enough room", plan_fonts(0) < 256);
+}
+
 static void refusals(void) {
     static uint8_t longest[SIGN_MOST + 1];
     uint8_t kept[SIGN_BLOCK], zero[SIGN_TALLY] = {0};
@@ -151,6 +243,9 @@ static void refusals(void) {
 int main(void) {
     memset(want, 0x20, sizeof want);
     bench_sheet();
+    two_fonts();
+    fonts_refusals();
+    memset(want, 0x20, sizeof want);
     refusals();
     if (failures) return 1;
     printf("ok\n");

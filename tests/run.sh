@@ -1,5 +1,5 @@
 #!/bin/sh
-# Builds and runs one test: tests/run.sh self | show | host | plans | alike | c-host | example | dump
+# Builds and runs one test: tests/run.sh self | show | host | plans | fonts | alike | c-host | example | dump
 # or a measure: tests/run.sh speed | costs. See tests/README.md.
 set -eu
 cd "$(dirname "$0")/.."
@@ -64,7 +64,7 @@ show)
     # shellcheck disable=SC2086
     "$out/show" $RUN target/bin/show
     ;;
-host | plans)
+host | plans | fonts)
     linked "$1" -C overflow-checks=on
     $RUN "$out/$1"
     ;;
@@ -112,7 +112,7 @@ costs)
     objdump -dr target/staticlib/libsign.a | python3 tests/stack.py
     ;;
 *)
-    echo "usage: tests/run.sh self | show | host | plans | alike | c-host | example | dump | speed | costs" >&2
+    echo "usage: tests/run.sh self | show | host | plans | fonts | alike | c-host | example | dump | speed | costs" >&2
     exit 2
     ;;
 esac

@@ -1,4 +1,4 @@
-//! Calls the three C functions with all kinds of arguments, right and wrong, and compares each answer
+//! Calls the four C functions with all kinds of arguments, right and wrong, and compares each answer
 //! and each byte of each buffer with the independent program. Linked with libsign.a.
 
 mod inputs;
@@ -18,9 +18,10 @@ struct Host {
     report: Report,
     rng: Rng,
     moves: Moves,
-    /// Answers of run and plan by refusal (0: accepted), to show that each was met.
+    /// Answers of run and both plans by refusal (0: accepted), to show that each was met.
     runs: [u64; 11],
     plans: [u64; 11],
+    fonts_plans: [u64; 11],
     power_ups: [u64; 11],
 }
 
@@ -32,6 +33,7 @@ impl Host {
             moves: Moves::new(),
             runs: [0; 11],
             plans: [0; 11],
+            fonts_plans: [0; 11],
             power_ups: [0; 11],
         }
     }
@@ -94,23 +96,42 @@ impl Host {
         Some((b.bytes().to_vec(), t.bytes().to_vec()))
     }
 
-    fn plan(&mut self, block: &[u8], codes: &[u8], cursor: u32, room: usize) {
+    /// Both planners on the same arguments, with so many bytes more (or less) room than they want.
+    fn plans(&mut self, block: &[u8], codes: &[u8], fonts: &[u8], cursor: u32, spare: isize) {
+        let room = |wants: usize| (wants as isize + spare).max(0) as usize;
+        self.plan(block, codes, None, cursor, room(PLAN_ROOM));
+        self.plan(block, codes, Some(fonts), cursor, room(FONTS_ROOM));
+    }
+
+    /// One plan, compared in all it leaves: sign_plan_fonts where there are fonts, otherwise sign_plan.
+    fn plan(&mut self, block: &[u8], codes: &[u8], fonts: Option<&[u8]>, cursor: u32, room: usize) {
         let fill = self.rng.byte();
         let mut out_after = vec![fill; room];
-        let expected = host_plan(block, codes, cursor, &mut out_after, &self.moves);
+        let expected = match fonts {
+            Some(fonts) => host_plan_fonts(block, codes, fonts, cursor, &mut out_after, &self.moves),
+            None => host_plan(block, codes, cursor, &mut out_after, &self.moves),
+        };
         let b = Lent::new(block, &mut self.rng);
         let k = Lent::new(codes, &mut self.rng);
+        let f = fonts.map(|fonts| Lent::new(fonts, &mut self.rng));
         let mut o = Lent::new(&vec![fill; room], &mut self.rng);
-        let got = sign::plan(b.bytes(), k.bytes(), cursor, o.bytes_mut());
+        let lent = f.as_ref().map(|f| f.bytes());
+        let got = sign::plan_either(b.bytes(), k.bytes(), lent, cursor, o.bytes_mut());
         self.report.cases += 1;
-        self.plans[if expected < 256 { 0 } else { expected as usize - 256 }] += 1;
+        let (name, answers) = match fonts {
+            Some(_) => ("sign_plan_fonts", &mut self.fonts_plans),
+            None => ("sign_plan", &mut self.plans),
+        };
+        answers[if expected < 256 { 0 } else { expected as usize - 256 }] += 1;
         let call = || {
             format!(
-                "sign_plan, block of {} with head {}, {} codes {}, cursor {}, room {}",
+                "{}, block of {} with head {}, {} codes {}, fonts {}, cursor {}, room {}",
+                name,
                 block.len(),
                 hex(&block[..block.len().min(24)]),
                 codes.len(),
                 hex(codes),
+                hex(fonts.unwrap_or(&[])),
                 cursor,
                 room
             )
@@ -121,9 +142,9 @@ impl Host {
         self.report.expect(o.bytes() == &out_after[..], || {
             format!("{}: plan {} and should be {}", call(), hex(o.bytes()), hex(&out_after))
         });
-        self.report.expect(b.untouched() && k.untouched() && o.guarded(), || {
-            format!("{}: wrote outside", call())
-        });
+        let kept = b.untouched() && k.untouched() && f.as_ref().map_or(true, |f| f.untouched());
+        self.report
+            .expect(kept && o.guarded(), || format!("{}: wrote outside", call()));
         if got >= 256 {
             self.report.expect(o.untouched(), || {
                 format!("{}: refused, and wrote to the buffer", call())
@@ -228,16 +249,17 @@ fn damaged_blocks(h: &mut Host) {
     }
     let good = plannable().to_block();
     let codes = plannable().codes.map(|x| if x < 0x20 { 0x41 } else { x });
+    let fonts = plannable().fonts.map(|f| 1 - f);
     for i in 0..510 {
         for v in 0..=255u8 {
             let mut b = good;
             b[i] = v;
             seal(&mut b);
-            h.plan(&b, &codes, (v % 40) as u32, 44);
+            h.plans(&b, &codes, &fonts, (v % 40) as u32, 0);
         }
         let mut b = good;
         b[i] ^= 0x40;
-        h.plan(&b, &codes, 0, 44);
+        h.plans(&b, &codes, &fonts, 0, 0);
     }
     // two damages that leave the sum as it was: the check is right, and only the other rules can tell
     for i in 0..254 {
@@ -245,7 +267,7 @@ fn damaged_blocks(h: &mut Host) {
         if b[i] <= 253 && b[2 * i + 1] >= 1 {
             b[i] += 2;
             b[2 * i + 1] -= 1;
-            h.plan(&b, &codes, 0, 44);
+            h.plans(&b, &codes, &fonts, 0, 0);
             h.run(&b, &ZERO, &[]);
         }
     }
@@ -286,10 +308,11 @@ fn order_of_refusals(h: &mut Host) {
         }
         h.run(&block, &t, if wrong(8) { &long } else { &[0x41, 0x42] });
     }
-    for set in 0..1u32 << 12 {
+    for set in 0..1u32 << 15 {
         let wrong = |i: u32| set >> i & 1 == 1;
         let mut c = Condition::power_up(0);
         let mut codes = vec![0x41; CELLS];
+        let mut fonts = vec![0; CELLS];
         if wrong(0) {
             c.half = any_started(&mut h.rng);
         }
@@ -301,6 +324,12 @@ fn order_of_refusals(h: &mut Host) {
             let code = PLANNERS_CODES[h.rng.below(if wrong(0) { 5 } else { 6 })];
             c.users[0] = User { code, dots: [1; 5] };
             c.count = 1;
+        }
+        if wrong(14) {
+            // stops the planner of two fonts only
+            let code = h.rng.pick(&[0x18, 0x19, 0x1A]);
+            c.users[c.count] = User { code, dots: [2; 5] };
+            c.count += 1;
         }
         if wrong(3) {
             codes[h.rng.below(CELLS)] = 0x1F;
@@ -325,8 +354,15 @@ fn order_of_refusals(h: &mut Host) {
         } else if wrong(9) {
             codes.pop();
         }
+        if wrong(12) {
+            fonts[h.rng.below(CELLS)] = h.rng.pick(&[2, 3, 0x80, 0xFF]);
+        }
+        if wrong(13) {
+            let n = h.rng.pick(&[0, 39, 41]);
+            fonts.resize(n, 0);
+        }
         let cursor = if wrong(10) { 40 } else { 39 };
-        h.plan(&block, &codes, cursor, if wrong(11) { 43 } else { 44 });
+        h.plans(&block, &codes, &fonts, cursor, if wrong(11) { -1 } else { 0 });
     }
 }
 
@@ -350,10 +386,12 @@ fn wrong_lengths(h: &mut Host) {
             }
         }
         for codes_len in [0, 1, 20, 39, 40, 41, 80, 512] {
-            for room in [0, 43, 44, 45, 512] {
-                let mut b = plannable().to_block().to_vec();
-                b.resize(block_len, 0);
-                h.plan(&b, &vec![0x41; codes_len], 5, room);
+            for fonts_len in [0, 1, 39, 40, 41, 80] {
+                for spare in [-104, -60, -1, 0, 1, 400] {
+                    let mut b = plannable().to_block().to_vec();
+                    b.resize(block_len, 0);
+                    h.plans(&b, &vec![0x41; codes_len], &vec![1; fonts_len], 5, spare);
+                }
             }
         }
     }
@@ -439,14 +477,8 @@ fn random_runs(h: &mut Host, cases: usize) {
         if h.rng.once_in(40) {
             t = h.rng.bytes(12);
         }
-        if h.rng.once_in(60) {
-            let n = h.rng.below(30);
-            t.resize(n, 0);
-        }
-        if h.rng.once_in(60) {
-            let n = h.rng.below(1_100);
-            block.resize(n, 0);
-        }
+        odd_length(&mut t, 30, 0, &mut h.rng);
+        odd_length(&mut block, 1_100, 0, &mut h.rng);
         h.run(&block, &t, &bytes);
     }
 }
@@ -467,6 +499,13 @@ fn damage(block: &mut [u8], rng: &mut Rng) {
     }
 }
 
+/// Now and then another length, below this.
+fn odd_length(lent: &mut Vec<u8>, below: usize, fill: u8, rng: &mut Rng) {
+    if rng.once_in(60) {
+        lent.resize(rng.below(below), fill);
+    }
+}
+
 fn random_plans(h: &mut Host, cases: usize) {
     for i in 0..cases {
         let mut c = if i % 2 == 0 {
@@ -482,8 +521,9 @@ fn random_plans(h: &mut Host, cases: usize) {
             c.half = Half::Nothing;
         }
         if !h.rng.once_in(6) {
+            let planners = h.rng.pick(&[&PLANNERS_CODES[..], &FONTS_CODES, &FONTS_CODES]);
             for k in 0..c.count {
-                if PLANNERS_CODES.contains(&c.users[k].code) {
+                if planners.contains(&c.users[k].code) {
                     // a free code in its place
                     let free = (0x80..=0xFF).find(|&x| !c.is_user(x)).unwrap();
                     c.users[k].code = free;
@@ -510,14 +550,18 @@ fn random_plans(h: &mut Host, cases: usize) {
         if h.rng.once_in(10) {
             damage(&mut block, &mut h.rng);
         }
-        if h.rng.once_in(60) {
-            let n = h.rng.below(80);
-            codes.resize(n, 0x41);
+        let mut fonts = c.fonts.to_vec();
+        for _ in 0..h.rng.pick(&[0, 3, 45]) {
+            fonts[h.rng.below(CELLS)] = h.rng.below(2) as u8;
         }
-        if h.rng.once_in(60) {
-            let n = h.rng.below(1_100);
-            block.resize(n, 0);
+        if h.rng.once_in(10) {
+            // above 1, also where the cell holds the wanted code
+            let p = h.rng.below(CELLS);
+            fonts[p] = h.rng.byte();
         }
+        odd_length(&mut codes, 80, 0x41, &mut h.rng);
+        odd_length(&mut fonts, 80, 0, &mut h.rng);
+        odd_length(&mut block, 1_100, 0, &mut h.rng);
         let cursor = match h.rng.below(12) {
             0 => h.rng.pick(&[
                 40,
@@ -535,12 +579,12 @@ fn random_plans(h: &mut Host, cases: usize) {
             1 => h.rng.next() as u32,
             _ => place(&mut h.rng) as u32,
         };
-        let room = if h.rng.once_in(8) {
-            h.rng.below(44)
+        let spare = if h.rng.once_in(8) {
+            h.rng.below(FONTS_ROOM) as isize - FONTS_ROOM as isize
         } else {
-            44 + h.rng.below(30)
+            h.rng.below(30) as isize
         };
-        h.plan(&block, &codes, cursor, room);
+        h.plans(&block, &codes, &fonts, cursor, spare);
     }
 }
 
@@ -605,7 +649,7 @@ fn threads(h: &mut Host) {
 
 /// Lengths of four gigabytes and some: not cut to 32 bits. The memory is only lent, never touched.
 fn giant_lengths(h: &mut Host) {
-    for &extra in &[12usize, 40, 43, 44, 511, 512] {
+    for &extra in &[12usize, 40, 43, 44, 103, 104, 511, 512] {
         let n = (1usize << 32) + extra;
         let layout = Layout::from_size_align(n, 16).unwrap();
         let p = unsafe { alloc_zeroed(layout) };
@@ -617,16 +661,18 @@ fn giant_lengths(h: &mut Host) {
         let block = Condition::power_up(0).to_block();
         let mut small = block;
         let mut t = ZERO;
-        let mut out = [0u8; 44];
+        let mut out = [0u8; FONTS_ROOM];
+        let (codes, fonts) = ([0x41; CELLS], [0; CELLS]);
 
         giant[..BLOCK].copy_from_slice(&block);
         let a = sign::run(giant, &mut t, &[0x41]);
-        let b = sign::plan(giant, &[0x41; 40], 0, &mut out);
-        h.report.expect(a == 1 && b == 257, || {
-            format!("block of {} bytes: answers {} and {}", n, a, b)
+        let b = sign::plan(giant, &codes, 0, &mut out);
+        let d = sign::plan_fonts(giant, &codes, &fonts, 0, &mut out);
+        h.report.expect(a == 1 && b == 257 && d == 257, || {
+            format!("block of {} bytes: answers {}, {} and {}", n, a, b, d)
         });
         h.report
-            .expect(giant[..BLOCK] == block && t == ZERO && out == [0; 44], || {
+            .expect(giant[..BLOCK] == block && t == ZERO && out == [0; FONTS_ROOM], || {
                 "a giant block changed".to_string()
             });
         giant[..BLOCK].fill(0);
@@ -637,22 +683,30 @@ fn giant_lengths(h: &mut Host) {
             format!("tally or run of {} bytes: answers {} and {}", n, a, b)
         });
         let a = sign::plan(&small, giant, 0, &mut out);
-        h.report.expect(a == 257, || format!("{} codes: answer {}", n, a));
-        h.report.expect(small == block && t == ZERO && out == [0; 44], || {
-            "a refused call changed something".to_string()
+        let b = sign::plan_fonts(&small, giant, &fonts, 0, &mut out);
+        let d = sign::plan_fonts(&small, &codes, giant, 0, &mut out);
+        h.report.expect(a == 257 && b == 257 && d == 257, || {
+            format!("{} codes or fonts: answers {}, {} and {}", n, a, b, d)
         });
+        h.report
+            .expect(small == block && t == ZERO && out == [0; FONTS_ROOM], || {
+                "a refused call changed something".to_string()
+            });
 
-        let a = sign::plan(&small, &[0x41; 40], 39, giant);
-        h.report.expect(
-            a == 43 && giant[..40] == [0x41; 40] && giant[43..1_000] == [0; 957],
-            || format!("plan into {} bytes: answer {}", n, a),
-        );
+        for lent in [None, Some(&fonts[..])] {
+            let a = sign::plan_either(&small, &codes, lent, 39, giant);
+            h.report
+                .expect(a == 43 && giant[..40] == codes && giant[43..1_000] == [0; 957], || {
+                    format!("plan into {} bytes: answer {}", n, a)
+                });
+            giant[..43].fill(0);
+        }
         let a = sign::power_up(0, giant);
         h.report.expect(
             a == 0 && giant[..BLOCK] == block && giant[BLOCK..1_000] == [0; 488],
             || format!("power-up into {} bytes: answer {}", n, a),
         );
-        h.report.cases += 7;
+        h.report.cases += 11;
         unsafe { dealloc(p, layout) };
     }
 }
@@ -670,11 +724,15 @@ fn main() {
     threads(&mut h);
     giant_lengths(&mut h);
     println!("host: runs by answer 0 to 5: {:?}", &h.runs[..6]);
-    println!(
-        "host: plans accepted {}, by refusal 1 to 10: {:?}",
-        h.plans[0],
-        &h.plans[1..]
-    );
+    let plans = [("sign_plan", h.plans), ("sign_plan_fonts", h.fonts_plans)];
+    for (name, met) in plans {
+        println!(
+            "host: {} accepted {}, by refusal 1 to 10: {:?}",
+            name,
+            met[0],
+            &met[1..]
+        );
+    }
     println!(
         "host: power-ups by answer: {} accepted, {} refused 3, {} refused 10",
         h.power_ups[0], h.power_ups[3], h.power_ups[10]
@@ -688,9 +746,11 @@ fn main() {
     ] {
         h.report.expect(met > 0, || format!("no run was refused {}", n));
     }
-    for n in [0, 1, 2, 3, 6, 7, 8, 9, 10] {
-        let met = h.plans[n] > 0;
-        h.report.expect(met, || format!("no plan was answered {}", n));
+    for (name, met) in plans {
+        for n in [0, 1, 2, 3, 6, 7, 8, 9, 10] {
+            h.report
+                .expect(met[n] > 0, || format!("no {} was answered {}", name, n));
+        }
     }
     h.report.end("host", 100_000);
 }

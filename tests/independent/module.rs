@@ -1,9 +1,10 @@
-//! The 20x2 display module, written from its papers alone (document 01, the scope, and source 000, the
-//! module's specification) and not from the product's code. The product is compared with it.
+//! The 20x2 display module, written from its papers alone (document 01, the scope, request W1 of document
+//! 02, and source 000, the module's specification) and not from the product's code. The product is
+//! compared with it.
 //!
 //! In this order: the condition; what a byte does, with its busy time; the run and its tally; what a
-//! cell shows; the block; the planner, by search; two further searches that confirm its fewest bytes;
-//! the three host calls.
+//! cell shows; the block; the planner of one font; the planner of two fonts, by search; two searches that
+//! confirm the fewest bytes of both; the four host calls.
 #![allow(dead_code)]
 
 pub const CELLS: usize = 40;
@@ -13,10 +14,14 @@ pub const TALLY: usize = 12;
 pub const LONGEST_RUN: usize = 32_768;
 pub const LIMIT: u64 = 4_000_000_000;
 pub const PLAN_ROOM: usize = 44;
+pub const FONTS_ROOM: usize = 104;
 
 /// The planner's one-byte moves, and ESC: a user character on one of these six stops all planning.
 pub const SINGLE_MOVES: [u8; 5] = [0x08, 0x09, 0x0A, 0x0C, 0x0D];
 pub const PLANNERS_CODES: [u8; 6] = [0x08, 0x09, 0x0A, 0x0C, 0x0D, 0x1B];
+
+/// The same for the planner of two fonts, which also sends 18h, 19h and 1Ah.
+pub const FONTS_CODES: [u8; 9] = [0x08, 0x09, 0x0A, 0x0C, 0x0D, 0x1B, 0x18, 0x19, 0x1A];
 
 // ---------------------------------------------------------------------------------- the condition
 
@@ -636,23 +641,81 @@ impl Moves {
     }
 }
 
-impl Condition {
-    pub fn is_wrong(&self, position: usize, wanted: &[u8]) -> bool {
-        self.codes[position] != wanted[position] || self.fonts[position] != self.font
+/// What a plan is to reach: a code and a font for each cell, and the asked cursor.
+pub struct Wanted {
+    pub codes: [u8; CELLS],
+    pub fonts: [u8; CELLS],
+    pub asked: usize,
+    /// May the font be switched on the way?
+    pub switches: bool,
+}
+
+impl Wanted {
+    /// For the planner of one font: every cell in the selected one, which stays.
+    pub fn in_one_font(c: &Condition, codes: [u8; CELLS], asked: usize) -> Wanted {
+        Wanted {
+            codes,
+            fonts: [c.font; CELLS],
+            asked,
+            switches: false,
+        }
+    }
+
+    /// For the planner of two fonts.
+    pub fn in_two_fonts(codes: [u8; CELLS], fonts: [u8; CELLS], asked: usize) -> Wanted {
+        Wanted {
+            codes,
+            fonts,
+            asked,
+            switches: true,
+        }
+    }
+
+    /// The fonts as its planner is lent them: the planner of one font takes none.
+    pub fn lent_fonts(&self) -> Option<&[u8]> {
+        if self.switches {
+            Some(&self.fonts)
+        } else {
+            None
+        }
+    }
+
+    /// The room that its planner wants.
+    pub fn room(&self) -> usize {
+        if self.switches {
+            FONTS_ROOM
+        } else {
+            PLAN_ROOM
+        }
+    }
+
+    pub fn plan(&self, c: &Condition, moves: &Moves) -> Result<Vec<u8>, u32> {
+        if self.switches {
+            plan_fonts(c, &self.codes, &self.fonts, self.asked as u32, moves)
+        } else {
+            plan(c, &self.codes, self.asked as u32, moves)
+        }
     }
 }
 
-/// Why there is no plan: 3, 6, 7, 8 or 9; 0 if there is one.
-pub fn plan_refusal(c: &Condition, wanted: &[u8], asked: u32) -> u32 {
+impl Condition {
+    pub fn is_wrong(&self, position: usize, wanted: &Wanted) -> bool {
+        self.codes[position] != wanted.codes[position] || self.fonts[position] != wanted.fonts[position]
+    }
+}
+
+/// Why there is no plan: 3, 6, 7, 8 or 9; 0 if there is one. `planners`: the codes that must be free of
+/// user characters.
+fn plan_refusal(c: &Condition, codes: &[u8], asked: u32, planners: &[u8]) -> u32 {
     if !c.well_formed() || asked >= CELLS as u32 {
         3
     } else if c.half != Half::Nothing {
         6
     } else if c.mode != 1 {
         7
-    } else if PLANNERS_CODES.iter().any(|&m| c.is_user(m)) {
+    } else if planners.iter().any(|&m| c.is_user(m)) {
         8
-    } else if wanted.iter().any(|&w| w < 0x20 && !c.is_user(w)) {
+    } else if codes.iter().any(|&w| w < 0x20 && !c.is_user(w)) {
         9
     } else {
         0
@@ -660,77 +723,229 @@ pub fn plan_refusal(c: &Condition, wanted: &[u8], asked: u32) -> u32 {
 }
 
 /// The plan: the wrong cells in reading order, with the shortest way to each and to the asked cursor.
-pub fn plan(c: &Condition, wanted: &[u8], asked: u32, moves: &Moves) -> Result<Vec<u8>, u32> {
-    let refusal = plan_refusal(c, wanted, asked);
+pub fn plan(c: &Condition, codes: &[u8; CELLS], asked: u32, moves: &Moves) -> Result<Vec<u8>, u32> {
+    let refusal = plan_refusal(c, codes, asked, &PLANNERS_CODES);
     if refusal != 0 {
         return Err(refusal);
     }
+    let wanted = Wanted::in_one_font(c, *codes, asked as usize);
     let mut out = Vec::new();
     let mut at = c.cursor;
     for p in 0..CELLS {
-        if c.is_wrong(p, wanted) {
+        if c.is_wrong(p, &wanted) {
             out.extend_from_slice(moves.path(at, p));
-            out.push(wanted[p]);
+            out.push(wanted.codes[p]);
             at = (p + 1) % CELLS;
         }
     }
-    out.extend_from_slice(moves.path(at, asked as usize));
+    out.extend_from_slice(moves.path(at, wanted.asked));
     Ok(out)
 }
 
-// ------------------------------------------------------------- two searches that confirm fewest bytes
+// ------------------------------------------------------------------------- the planner of two fonts
 
-/// The fewest bytes of any reading-order string, right cells written too, that gives the picture and
-/// the asked cursor: shortest ways over (next cell that may still be written, cursor). A cell that is
-/// passed by can't be written any more, and a cell written with another code than the wanted one can't
-/// be mended, so these are all the strings that can count.
-pub fn fewest_bytes(c: &Condition, wanted: &[u8], asked: usize, moves: &Moves) -> usize {
-    const FAR: usize = 1_000_000;
-    let mut all = [[FAR; CELLS]; CELLS + 1];
-    all[0][c.cursor] = 0;
-    for free in 0..=CELLS {
-        let mut d = all[free];
-        // a position command from the nearest place, then single moves until nothing gets shorter
-        let jump = d.iter().min().unwrap() + 3;
-        for x in d.iter_mut() {
-            *x = jump.min(*x);
+/// The plan with a font for each cell: of the shortest strings that have a plan's form the smallest.
+pub fn plan_fonts(
+    c: &Condition,
+    codes: &[u8; CELLS],
+    fonts: &[u8; CELLS],
+    asked: u32,
+    moves: &Moves,
+) -> Result<Vec<u8>, u32> {
+    if fonts.iter().any(|&f| f > 1) {
+        return Err(3);
+    }
+    let refusal = plan_refusal(c, codes, asked, &FONTS_CODES);
+    if refusal != 0 {
+        return Err(refusal);
+    }
+    let wanted = Wanted::in_two_fonts(*codes, *fonts, asked as usize);
+    let ways = Ways::new(c, &wanted, moves, true);
+    Ok(ways.smallest(Place::start(c)))
+}
+
+/// The step that goes back to the International font and leaves the Euro mark as it is.
+fn back(c: &Condition) -> &'static [u8] {
+    if c.euro {
+        &[0x18, 0x1A]
+    } else {
+        &[0x18]
+    }
+}
+
+/// Where a string has led to: the first cell that may still be written, the selected font, the cursor.
+#[derive(Clone, Copy)]
+struct Place {
+    free: usize,
+    font: usize,
+    cursor: usize,
+}
+
+impl Place {
+    fn start(c: &Condition) -> Place {
+        Place {
+            free: 0,
+            font: c.font as usize,
+            cursor: c.cursor,
         }
+    }
+
+    fn written(self) -> Place {
+        Place {
+            free: self.cursor + 1,
+            font: self.font,
+            cursor: (self.cursor + 1) % CELLS,
+        }
+    }
+}
+
+/// The fewest bytes from each place to the wanted picture and cursor, by any reading-order string, right
+/// cells written too; or only by strings of a plan's form: they write the wrong cells only, and switch
+/// only at the next wrong cell, if it needs it. A cell that is passed by can't be written any more, and a
+/// cell written otherwise than wanted can't be mended, so these are all the strings that can count.
+struct Ways<'a> {
+    wanted: &'a Wanted,
+    moves: &'a Moves,
+    back: &'static [u8],
+    plans_form: bool,
+    /// The first wrong cell from each cell on; 40 for none.
+    next_wrong: [usize; CELLS + 1],
+    /// By first cell that may still be written, selected font and cursor.
+    fewest: [[[usize; CELLS]; 2]; CELLS + 1],
+}
+
+impl<'a> Ways<'a> {
+    fn new(c: &Condition, wanted: &'a Wanted, moves: &'a Moves, plans_form: bool) -> Ways<'a> {
+        const FAR: usize = 1_000_000;
+        let mut next_wrong = [CELLS; CELLS + 1];
+        for p in (0..CELLS).rev() {
+            next_wrong[p] = if c.is_wrong(p, wanted) { p } else { next_wrong[p + 1] };
+        }
+        let mut ways = Ways {
+            wanted,
+            moves,
+            back: back(c),
+            plans_form,
+            next_wrong,
+            fewest: [[[FAR; CELLS]; 2]; CELLS + 1],
+        };
+        for free in (0..=CELLS).rev() {
+            ways.fill(free);
+        }
+        ways
+    }
+
+    fn from(&self, at: Place) -> usize {
+        self.fewest[at.free][at.font][at.cursor]
+    }
+
+    /// No wrong cell may be left behind.
+    fn may_write(&self, at: Place) -> bool {
+        let next = self.next_wrong[at.free];
+        let in_turn = at.cursor == next || !self.plans_form && at.free <= at.cursor && at.cursor < next;
+        in_turn && self.wanted.fonts[at.cursor] as usize == at.font
+    }
+
+    fn may_switch(&self, at: Place) -> bool {
+        let needed = at.cursor == self.next_wrong[at.free] && self.wanted.fonts[at.cursor] as usize != at.font;
+        self.wanted.switches && (needed || !self.plans_form)
+    }
+
+    fn switch(&self, font: usize) -> &'static [u8] {
+        if font == 0 {
+            &[0x19]
+        } else {
+            self.back
+        }
+    }
+
+    /// All places with this first cell; those with higher ones are done.
+    fn fill(&mut self, free: usize) {
+        let mut d = self.fewest[free];
+        for font in 0..2 {
+            for cursor in 0..CELLS {
+                let at = Place { free, font, cursor };
+                if self.next_wrong[free] == CELLS && cursor == self.wanted.asked {
+                    d[font][cursor] = 0;
+                } else if self.may_write(at) {
+                    d[font][cursor] = 1 + self.from(at.written());
+                }
+            }
+        }
+        // a position command to the best place, single moves and switches, until nothing gets shorter
         let mut changed = true;
         while changed {
             changed = false;
-            for p in 0..CELLS {
-                for &l in &moves.single[p] {
-                    if d[p] + 1 < d[l] {
-                        d[l] = d[p] + 1;
+            for font in 0..2 {
+                let jump = 3 + d[font].iter().min().unwrap();
+                for cursor in 0..CELLS {
+                    let mut least = jump;
+                    for &l in &self.moves.single[cursor] {
+                        least = least.min(1 + d[font][l]);
+                    }
+                    if self.may_switch(Place { free, font, cursor }) {
+                        least = least.min(self.switch(font).len() + d[1 - font][cursor]);
+                    }
+                    if least < d[font][cursor] {
+                        d[font][cursor] = least;
                         changed = true;
                     }
                 }
             }
         }
-        // a write at p: no wrong cell may be left behind it
-        for p in free..CELLS {
-            let after = &mut all[p + 1][(p + 1) % CELLS];
-            *after = (*after).min(d[p] + 1);
-            if c.is_wrong(p, wanted) {
-                break;
+        self.fewest[free] = d;
+    }
+
+    /// Of the shortest strings the smallest by first differing byte. (No step is the start of another.)
+    fn smallest(&self, start: Place) -> Vec<u8> {
+        let mut out = Vec::new();
+        let mut at = start;
+        while self.from(at) > 0 {
+            let (bytes, next) = self.smallest_step(at);
+            out.extend_from_slice(&bytes);
+            at = next;
+        }
+        out
+    }
+
+    /// The smallest step that a shortest string can take, and where it leads.
+    fn smallest_step(&self, at: Place) -> (Vec<u8>, Place) {
+        let mut smallest: Option<(Vec<u8>, Place)> = None;
+        let mut step = |bytes: &[u8], to: Place| {
+            let shortest = bytes.len() + self.from(to) == self.from(at);
+            if shortest && smallest.as_ref().map_or(true, |(found, _)| bytes < &found[..]) {
+                smallest = Some((bytes.to_vec(), to));
             }
+        };
+        for (&m, cursor) in SINGLE_MOVES.iter().zip(self.moves.single[at.cursor]) {
+            step(&[m], Place { cursor, ..at });
         }
-        all[free] = d;
-    }
-    let mut best = FAR;
-    for free in 0..=CELLS {
-        if (free..CELLS).all(|p| !c.is_wrong(p, wanted)) {
-            best = best.min(all[free][asked]);
+        for cursor in 0..CELLS {
+            step(&[0x1B, 0x48, cursor as u8], Place { cursor, ..at });
         }
+        if self.may_switch(at) {
+            let font = 1 - at.font;
+            step(self.switch(at.font), Place { font, ..at });
+        }
+        if self.may_write(at) {
+            step(&[self.wanted.codes[at.cursor]], at.written());
+        }
+        smallest.expect("a step of a shortest string")
     }
-    best
+}
+
+// ------------------------------------------------------------- two searches that confirm fewest bytes
+
+/// The fewest bytes of any reading-order string that gives the picture and the asked cursor.
+pub fn fewest_bytes(c: &Condition, wanted: &Wanted, moves: &Moves) -> usize {
+    Ways::new(c, wanted, moves, false).from(Place::start(c))
 }
 
 /// What the search over the strings themselves found.
 pub struct Found {
     /// The length of the shortest reading-order strings that give the picture.
     pub fewest: usize,
-    /// The smallest of those that write only wrong cells.
+    /// The smallest of those that write only wrong cells, and switch only before a write that needs it.
     pub smallest: Option<Vec<u8>>,
     pub strings: u64,
 }
@@ -738,20 +953,19 @@ pub struct Found {
 /// Runs every reading-order string of at most `most` bytes through the interpreter, byte by byte.
 /// With `every_code` each cell is written with every code that can be written, otherwise only with the
 /// wanted one (any other can't be mended).
-pub fn try_all_strings(c: &Condition, wanted: &[u8], asked: usize, most: usize, every_code: bool) -> Option<Found> {
+pub fn try_all_strings(c: &Condition, wanted: &Wanted, most: usize, every_code: bool) -> Option<Found> {
     let mut search = Search {
         start: c,
         wanted,
-        asked,
         every_code,
         string: Vec::new(),
-        only_wrong: true,
+        plans_form: true,
         best: None,
         strings: 0,
     };
     // shorter strings first, so that the first length with a hit is the fewest
     for length in 0..=most {
-        search.from(c, 0, length);
+        search.from(c, 0, length, false);
         if search.best.is_some() {
             break;
         }
@@ -766,66 +980,77 @@ pub fn try_all_strings(c: &Condition, wanted: &[u8], asked: usize, most: usize, 
 
 struct Search<'a> {
     start: &'a Condition,
-    wanted: &'a [u8],
-    asked: usize,
+    wanted: &'a Wanted,
     every_code: bool,
     string: Vec<u8>,
-    only_wrong: bool,
+    plans_form: bool,
     best: Option<(usize, Option<Vec<u8>>)>,
     strings: u64,
 }
 
 impl<'a> Search<'a> {
-    /// All strings of exactly `left` bytes more, with writes from the cell `free` up.
-    fn from(&mut self, c: &Condition, free: usize, left: usize) {
+    /// All strings of exactly `left` bytes more, with writes from the cell `free` up. `switched`: the last
+    /// step was a switch.
+    fn from(&mut self, c: &Condition, free: usize, left: usize, switched: bool) {
+        let (was, wanted) = (self.plans_form, self.wanted);
         if left == 0 {
             self.strings += 1;
-            if c.cursor == self.asked && c.codes[..] == *self.wanted && c.fonts.iter().all(|&f| f == c.font) {
+            if c.cursor == wanted.asked && c.codes == wanted.codes && c.fonts == wanted.fonts {
                 let length = self.string.len();
                 let best = self.best.get_or_insert((length, None));
-                if self.only_wrong && best.1.as_ref().map_or(true, |s| self.string < *s) {
+                if was && !switched && best.1.as_ref().map_or(true, |s| self.string < *s) {
                     best.1 = Some(self.string.clone());
                 }
             }
             return;
         }
+        let here = c.cursor;
+        let wrong = here >= free && self.start.is_wrong(here, wanted);
+        // in a plan nothing but the write that needs it comes after a switch
+        self.plans_form = was && !switched;
         for &m in &SINGLE_MOVES {
-            self.step(c, &[m], free, left);
+            self.step(c, &[m], free, left, false);
         }
         if left >= 3 {
             for p in 0..CELLS as u8 {
-                self.step(c, &[0x1B, 0x48, p], free, left);
+                self.step(c, &[0x1B, 0x48, p], free, left, false);
             }
         }
-        let here = c.cursor;
+        if wanted.switches {
+            self.plans_form = was && !switched && wrong && wanted.fonts[here] != c.font;
+            for bytes in [&[0x19][..], back(c)] {
+                if left >= bytes.len() {
+                    self.step(c, bytes, free, left, true);
+                }
+            }
+        }
         if here >= free {
-            let was = self.only_wrong;
-            self.only_wrong = was && self.start.is_wrong(here, self.wanted);
+            self.plans_form = was && wrong;
             if self.every_code {
                 for b in 0..=255u8 {
                     if b >= 0x20 || c.is_user(b) {
-                        self.step(c, &[b], here + 1, left);
+                        self.step(c, &[b], here + 1, left, false);
                     }
                 }
             } else {
-                self.step(c, &[self.wanted[here]], here + 1, left);
+                self.step(c, &[wanted.codes[here]], here + 1, left, false);
             }
-            self.only_wrong = was;
         }
+        self.plans_form = was;
     }
 
-    fn step(&mut self, c: &Condition, bytes: &[u8], free: usize, left: usize) {
+    fn step(&mut self, c: &Condition, bytes: &[u8], free: usize, left: usize, switched: bool) {
         let mut next = c.clone();
         for &b in bytes {
             next.take(b);
             self.string.push(b);
         }
-        self.from(&next, free, left - bytes.len());
+        self.from(&next, free, left - bytes.len(), switched);
         self.string.truncate(self.string.len() - bytes.len());
     }
 }
 
-// ------------------------------------------------------------------------------ the three host calls
+// ------------------------------------------------------------------------------- the four host calls
 
 pub fn host_run(block: &mut [u8], tally: &mut [u8], bytes: &[u8]) -> u32 {
     if block.len() != BLOCK || tally.len() != TALLY {
@@ -846,16 +1071,28 @@ pub fn host_run(block: &mut [u8], tally: &mut [u8], bytes: &[u8]) -> u32 {
 }
 
 pub fn host_plan(block: &[u8], codes: &[u8], cursor: u32, out: &mut [u8], moves: &Moves) -> u32 {
-    if block.len() != BLOCK || codes.len() != CELLS {
-        return 256 + 1;
-    }
-    let c = match Condition::from_block(block) {
-        Ok(c) => c,
-        Err(n) => return 256 + n,
+    let planned = match codes.try_into() {
+        Ok(codes) => Condition::from_block(block).and_then(|c| plan(&c, codes, cursor, moves)),
+        Err(_) => Err(1),
     };
-    match plan(&c, codes, cursor, moves) {
+    planned_answer(planned, PLAN_ROOM, out)
+}
+
+pub fn host_plan_fonts(block: &[u8], codes: &[u8], fonts: &[u8], cursor: u32, out: &mut [u8], moves: &Moves) -> u32 {
+    let planned = match (codes.try_into(), fonts.try_into()) {
+        (Ok(codes), Ok(fonts)) => {
+            Condition::from_block(block).and_then(|c| plan_fonts(&c, codes, fonts, cursor, moves))
+        }
+        _ => Err(1),
+    };
+    planned_answer(planned, FONTS_ROOM, out)
+}
+
+/// Puts a plan where there is room for the longest; answers its length, or 256 plus the refusal.
+fn planned_answer(planned: Result<Vec<u8>, u32>, room: usize, out: &mut [u8]) -> u32 {
+    match planned {
         Err(n) => 256 + n,
-        Ok(_) if out.len() < PLAN_ROOM => 256 + 10,
+        Ok(_) if out.len() < room => 256 + 10,
         Ok(bytes) => {
             out[..bytes.len()].copy_from_slice(&bytes);
             bytes.len() as u32

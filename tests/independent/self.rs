@@ -1,5 +1,5 @@
 //! The independent program alone: the fourteen cases of the bench sheet, the sample, and the rules of
-//! document 01 that it can be held to by itself. It uses nothing of the product.
+//! document 01 and of request W1 that it can be held to by itself. It uses nothing of the product.
 
 mod inputs;
 mod module;
@@ -263,6 +263,168 @@ fn move_rule(r: &mut Report, moves: &Moves) {
     }
 }
 
+/// Plans of two fonts worked out by hand: the bytes before, from power-up; the cells that are then wanted
+/// otherwise, with code and font; the asked cursor; the plan.
+fn two_fonts(r: &mut Report, moves: &Moves) {
+    type Example<'a> = (&'a [u8], &'a [(usize, u8, u8)], u32, &'a [u8]);
+    let four = [(0, 0x41, 1), (1, 0x42, 0), (2, 0x43, 1), (3, 0x44, 0)];
+    let examples: [Example; 12] = [
+        // there and back, with Euro on and off
+        (
+            &[0x1A],
+            &four,
+            4,
+            &[0x19, 0x41, 0x18, 0x1A, 0x42, 0x19, 0x43, 0x18, 0x1A, 0x44],
+        ),
+        (&[], &four, 4, &[0x19, 0x41, 0x18, 0x42, 0x19, 0x43, 0x18, 0x44]),
+        // Katakana is selected: the first switch goes back
+        (&[0x19, 0x0E], &[(0, 0x41, 0)], 1, &[0x18, 0x41]),
+        (&[0x1A, 0x19, 0x0E], &[(0, 0x41, 0)], 1, &[0x18, 0x1A, 0x41]),
+        (&[0x19], &[(0, 0x41, 1)], 1, &[0x41]),
+        // nothing is wrong: only moves, though no cell has the selected font
+        (&[0x19], &[], 0, &[]),
+        (&[0x1A, 0x19, 0x1B, 0x48, 0x14], &[], 19, &[0x1B, 0x48, 0x13]),
+        // the switch comes after the moves
+        (&[], &[(21, 0x41, 1)], 22, &[0x09, 0x0A, 0x19, 0x41]),
+        (&[], &[(39, 0x41, 1)], 0, &[0x1B, 0x48, 0x27, 0x19, 0x41]),
+        // only the font is wrong
+        (&[], &[(0, 0x20, 1)], 1, &[0x19, 0x20]),
+        // a right cell of the other font needs no switch
+        (&[], &[(0, 0x41, 1), (2, 0x42, 1)], 3, &[0x19, 0x41, 0x09, 0x42]),
+        (
+            &[0x1A],
+            &[(0, 0x41, 1), (2, 0x42, 0)],
+            3,
+            &[0x19, 0x41, 0x09, 0x18, 0x1A, 0x42],
+        ),
+    ];
+    for (before, cells, asked, expected) in examples {
+        let (c, _) = after(before);
+        let (mut codes, mut fonts) = (c.codes, c.fonts);
+        for &(p, code, font) in cells {
+            codes[p] = code;
+            fonts[p] = font;
+        }
+        r.cases += 1;
+        let got = plan_fonts(&c, &codes, &fonts, asked, moves);
+        r.expect(got.as_deref() == Ok(expected), || {
+            format!("two fonts, {} and not {:02X?}", hex(expected), got)
+        });
+    }
+    // Katakana on the lower line, Latin above
+    let wanted = picture(&[(0, 0x41), (1, 0x42), (20, 0xB1), (21, 0xB2)]);
+    let mut fonts = [0; CELLS];
+    fonts[20..].fill(1);
+    let lounge = [&[0x41, 0x42, 0x0A, 0x0D, 0x19, 0xB1, 0xB2][..], &[0x20; 18]].concat();
+    r.cases += 1;
+    r.expect(
+        plan_fonts(&after(&[]).0, &wanted, &fonts, 0, moves) == Ok(lounge),
+        || "Katakana on the lower line".to_string(),
+    );
+    // the longest: every cell with a switch, every second one of two bytes; from either font
+    let (c, _) = after(&[0x1A, 0x1B, 0x48, 0x05]);
+    let (d, _) = after(&[0x1A, 0x19, 0x0E, 0x1B, 0x48, 0x05]);
+    for (c, there, pair) in [
+        (c, [1, 0], [0x19, 0x41, 0x18, 0x1A, 0x41]),
+        (d, [0, 1], [0x18, 0x1A, 0x41, 0x19, 0x41]),
+    ] {
+        let mut fonts = [0; CELLS];
+        fonts.iter_mut().enumerate().for_each(|(p, f)| *f = there[p % 2]);
+        let longest = [&[0x0C][..], &pair.repeat(20), &[0x1B, 0x48, 0x27]].concat();
+        r.cases += 1;
+        r.expect(
+            longest.len() == 104 && plan_fonts(&c, &[0x41; CELLS], &fonts, 39, moves) == Ok(longest),
+            || format!("the longest plan, from font {}", c.font),
+        );
+    }
+    r.cases += 2;
+    r.expect(
+        longest_plan(moves, false) == 44 && longest_plan(moves, true) == 104,
+        || "no plan is longer than 44 bytes, and than 104".to_string(),
+    );
+    // the selected font wanted everywhere: the plan of one font
+    let mut rng = Rng::new(2);
+    for _ in 0..2_000 {
+        let mut c = inputs::any_condition(&mut rng);
+        c.mode = 1;
+        c.scroll_on = false;
+        c.half = Half::Nothing;
+        c.users = Condition::power_up(0).users;
+        c.count = 0;
+        let codes = [0; CELLS].map(|_: u8| 0x20 + rng.below(2) as u8);
+        let asked = rng.below(CELLS) as u32;
+        let one = plan(&c, &codes, asked, moves);
+        r.cases += 1;
+        r.expect(
+            one.is_ok() && one == plan_fonts(&c, &codes, &[c.font; CELLS], asked, moves),
+            || format!("two fonts: otherwise than with one font from {:?}", c),
+        );
+    }
+}
+
+/// The longest plan of all: over every set of wrong cells, the fonts they are wanted in, the font selected
+/// before, the cursor before and after, with Euro on.
+fn longest_plan(moves: &Moves, switches: bool) -> usize {
+    // by selected font and cursor, with the cells so far right or written
+    let mut longest = [[0; CELLS]; 2];
+    for p in 0..CELLS {
+        let mut next = longest;
+        for (before, font) in [(0, 0), (0, 1), (1, 0), (1, 1)] {
+            if switches || before == font {
+                let switch = [[0, 1], [2, 0]][before][font];
+                let bytes = (0..CELLS).map(|at| longest[before][at] + moves.path(at, p).len() + switch + 1);
+                let written = &mut next[font][(p + 1) % CELLS];
+                *written = bytes.max().unwrap().max(*written);
+            }
+        }
+        longest = next;
+    }
+    let ends = (0..2 * CELLS * CELLS).map(|i| {
+        let (font, at, asked) = (i % 2, i / 2 % CELLS, i / 2 / CELLS);
+        longest[font][at] + moves.path(at, asked).len()
+    });
+    ends.max().unwrap()
+}
+
+/// The refusals of the planner of two fonts: what is lent, from power-up after these bytes, and the answer.
+fn two_fonts_refused(r: &mut Report, moves: &Moves) {
+    type Example<'a> = (&'a [u8], u8, usize, u32, usize, u32);
+    // bytes before, a wanted font, how many fonts, asked cursor, room, answer
+    let examples: [Example; 14] = [
+        (&[], 0, 40, 0, 104, 0),
+        (&[], 0, 40, 0, 103, 256 + 10),
+        (&[], 0, 39, 40, 0, 256 + 1),
+        (&[], 0, 41, 0, 104, 256 + 1),
+        (&[], 2, 40, 0, 104, 256 + 3),
+        (&[], 0, 40, 40, 104, 256 + 3),
+        (&[0x1B], 255, 40, 0, 104, 256 + 3),
+        (&[0x12, 0x1B], 0, 40, 0, 104, 256 + 6),
+        (&[0x12], 0, 40, 0, 0, 256 + 7),
+        (&[0x1B, 0x43, 0x18, 0, 0, 0, 0, 0], 0, 40, 0, 104, 256 + 8),
+        (&[0x1B, 0x43, 0x19, 0, 0, 0, 0, 0], 0, 40, 0, 104, 256 + 8),
+        (&[0x1B, 0x43, 0x1A, 0, 0, 0, 0, 0], 0, 40, 0, 103, 256 + 8),
+        (&[0x1B, 0x43, 0x0D, 0, 0, 0, 0, 0], 0, 40, 0, 104, 256 + 8),
+        (&[0x1B, 0x43, 0x17, 0, 0, 0, 0, 0], 0, 40, 0, 104, 0),
+    ];
+    for (before, font, count, asked, room, answer) in examples {
+        let (c, _) = after(before);
+        let mut fonts = vec![0; count];
+        fonts[7] = font;
+        let mut out = vec![0xEE; room];
+        r.cases += 1;
+        let got = host_plan_fonts(&c.to_block(), &c.codes, &fonts, asked, &mut out, moves);
+        r.expect(got == answer && out.iter().all(|&x| x == 0xEE), || {
+            format!("after {}: answer {} and not {}", hex(before), answer, got)
+        });
+    }
+    // a user character on 18h, 19h or 1Ah stops only this planner; there it may be wanted
+    let (c, _) = after(&[0x1B, 0x43, 0x19, 0, 0, 0, 0, 0]);
+    r.cases += 1;
+    r.expect(plan(&c, &picture(&[(0, 0x19)]), 1, moves) == Ok(vec![0x19]), || {
+        "19h as a user character".to_string()
+    });
+}
+
 /// Every byte keeps a condition well formed; blocks read back the same; runs in pieces end alike.
 fn conditions(r: &mut Report) {
     let mut rng = Rng::new(1);
@@ -304,6 +466,8 @@ fn main() {
     sample(&mut r);
     worked_examples(&mut r);
     move_rule(&mut r, &moves);
+    two_fonts(&mut r, &moves);
+    two_fonts_refused(&mut r, &moves);
     conditions(&mut r);
     r.end("self", 14);
 }

@@ -1,4 +1,4 @@
-//! The product's three C functions (include/sign.h), on buffers with guard bytes on both sides.
+//! The product's four C functions (include/sign.h), on buffers with guard bytes on both sides.
 #![allow(dead_code)]
 
 use crate::rng::Rng;
@@ -17,6 +17,17 @@ extern "C" {
         block_len: usize,
         codes: *const u8,
         codes_len: usize,
+        cursor: u32,
+        out: *mut u8,
+        out_len: usize,
+    ) -> u32;
+    fn sign_plan_fonts(
+        block: *const u8,
+        block_len: usize,
+        codes: *const u8,
+        codes_len: usize,
+        fonts: *const u8,
+        fonts_len: usize,
         cursor: u32,
         out: *mut u8,
         out_len: usize,
@@ -48,6 +59,30 @@ pub fn plan(block: &[u8], codes: &[u8], cursor: u32, out: &mut [u8]) -> u32 {
             out.as_mut_ptr(),
             out.len(),
         )
+    }
+}
+
+pub fn plan_fonts(block: &[u8], codes: &[u8], fonts: &[u8], cursor: u32, out: &mut [u8]) -> u32 {
+    unsafe {
+        sign_plan_fonts(
+            block.as_ptr(),
+            block.len(),
+            codes.as_ptr(),
+            codes.len(),
+            fonts.as_ptr(),
+            fonts.len(),
+            cursor,
+            out.as_mut_ptr(),
+            out.len(),
+        )
+    }
+}
+
+/// sign_plan_fonts where there are fonts, otherwise sign_plan.
+pub fn plan_either(block: &[u8], codes: &[u8], fonts: Option<&[u8]>, cursor: u32, out: &mut [u8]) -> u32 {
+    match fonts {
+        Some(fonts) => plan_fonts(block, codes, fonts, cursor, out),
+        None => plan(block, codes, cursor, out),
     }
 }
 
