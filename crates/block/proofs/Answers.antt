@@ -1,10 +1,9 @@
 -- What each way through a reading and a writing comes to.
 use Prim.Native.Nat.{ℕ, _≤_, _<_}
 use mathlib.Core.Path.{_≡_, refl, ap, sym, _∙_}
-use mathlib.Core.Bool.{Bool, true, false, cond, not, _&&_}
+use mathlib.Core.Bool.{Bool, true, false, _&&_}
 use mathlib.Core.List.{List, _++_}
 use native.Mathlib.Omega.{arith}
-use lib.Dec.{eqb, ltb}
 use lib.ListN.{length, take, drop}
 use lib.Seq.{take-at}
 use borrow.Author.Tests.{eq-eqb, ne-eqb, lt-ltb, le-ltb}
@@ -14,7 +13,7 @@ use Rattle.condition.specs.Condition.{wellFormed}
 use Rattle.block.specs.declared.Written.{Written}
 use Rattle.block.specs.Layout.{conditionIn}
 use Rattle.block.specs.Block.{blockOf}
-use Rattle.block.specs.Reading.{sameBytes, intact, sound, readRefusal, refusedOf, readAnswer, ReadPromise}
+use Rattle.block.specs.Reading.{intact, sound, readRefusal, refusedOf, readAnswer, ReadPromise}
 use Rattle.block.specs.Writing.{writeRefusal, writeAnswer, writeOut, WritePromise}
 use Rattle.block.specs.Tidy.{tidy}
 use Rattle.condition.proofs.Good.{Sized}

@@ -1,9 +1,9 @@
 -- The lengths of a block's parts, and the check put behind the body.
 use Prim.Native.Nat.{ℕ, _+_, _/_, _%_, _≤_, _<_}
-use mathlib.Core.Path.{_≡_, refl, ap, sym, _∙_}
+use mathlib.Core.Path.{_≡_, ap, sym, _∙_}
 use mathlib.Core.List.{List, [], _∷_, _++_, append-assoc}
 use native.Mathlib.Omega.{arith}
-use lib.ListN.{length, take, drop, set, replicate, length-append, length-replicate}
+use lib.ListN.{length, take, drop, set, replicate, length-append}
 use lib.Seq.{take-at, take-all, set-at, append-snoc}
 use Rattle.row.specs.Row.{laid}
 use Rattle.condition.specs.declared.Condition.{Condition}

@@ -1,17 +1,14 @@
 -- What power-up and the queries answer (document 01, Refusal numbers and their order): a refusal number, 0 when accepted, and the
 -- value; a refused power-up returns power-up for font 0, a refused query 0, blank for a cell's view.
 use Prim.Native.Nat.{ℕ}
-use mathlib.Core.List.{List}
-use mathlib.Core.Bool.{Bool, true, false, cond, _&&_}
-use lib.ListN.{getD}
-use lib.Dec.{eqb, ltb, leb}
+use mathlib.Core.Bool.{cond, _&&_}
+use lib.Dec.{leb}
 use Rattle.users.specs.declared.Character.{Character}
 use Rattle.users.specs.declared.Found.{Found}
 use Rattle.users.specs.declared.Found.the-variants.{Missing, At}
 use Rattle.users.specs.Users.{foundOf, characterAt}
 use Rattle.users.specs.Dots.{dotOf, underlineOf, litOf}
 use Rattle.condition.specs.declared.Condition.{Condition}
-use Rattle.condition.specs.declared.Shows.{Shows}
 use Rattle.condition.specs.declared.Shows.the-variants.{Blank}
 use Rattle.condition.specs.declared.Outcome.{Outcome}
 use Rattle.condition.specs.declared.Seen.{Seen}

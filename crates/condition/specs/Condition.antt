@@ -1,8 +1,8 @@
 -- The condition (document 01, The condition): positions, power-up, and what is well formed.
-use Prim.Native.Nat.{ℕ, zero, suc, _+_, _-_, _*_, _/_, _%_}
+use Prim.Native.Nat.{ℕ, zero, suc, _%_}
 use mathlib.Core.List.{List, [], _∷_}
-use mathlib.Core.Bool.{Bool, true, false, cond, not, _&&_, _||_}
-use lib.ListN.{length, getD, set, take, drop, replicate}
+use mathlib.Core.Bool.{Bool, true, false, not, _&&_, _||_}
+use lib.ListN.{getD, drop, replicate}
 use lib.Dec.{eqb, ltb, leb}
 use Rattle.users.specs.declared.Users.{Users}
 use Rattle.condition.specs.declared.Condition.{Condition}

@@ -1,7 +1,7 @@
 -- The condition with a field changed. Every whole condition but power-up is written here, so a new field is added here.
 use Prim.Native.Nat.{ℕ}
 use mathlib.Core.List.{List}
-use mathlib.Core.Bool.{Bool, true, false}
+use mathlib.Core.Bool.{Bool, false}
 use lib.ListN.{set}
 use Rattle.users.specs.declared.Users.{Users}
 use Rattle.condition.specs.declared.Condition.{Condition}

@@ -1,9 +1,9 @@
 -- The planner's steps (document 01, Planner's steps), on bytes, over what a byte does.
-use Prim.Native.Nat.{ℕ, zero, suc, _+_, _-_, _*_, _/_, _%_}
+use Prim.Native.Nat.{ℕ, _+_}
 use mathlib.Core.List.{List, [], _∷_}
-use mathlib.Core.Bool.{Bool, true, false, cond, not, _&&_, _||_}
-use lib.ListN.{length, getD, set, take, drop, replicate}
-use lib.Dec.{eqb, ltb, leb}
+use mathlib.Core.Bool.{Bool, false, cond, not, _&&_, _||_}
+use lib.ListN.{getD}
+use lib.Dec.{eqb, leb}
 use Rattle.condition.specs.declared.Condition.{Condition}
 use Rattle.condition.specs.declared.Pending.{Pending}
 use Rattle.condition.specs.declared.Pending.the-variants.{Nothing, Escape, Position, Luminance, Speed, UserCode, UserData}

@@ -1,5 +1,5 @@
 -- What a store to a byte, or to a part, makes of the condition that stands there.
-use Prim.Native.Nat.{ℕ, zero, suc, _+_, _-_, _≤_, _<_}
+use Prim.Native.Nat.{ℕ, zero, suc, _+_, _≤_, _<_}
 use mathlib.Core.Path.{_≡_, refl, ap, sym, _∙_}
 use mathlib.Core.List.{List, [], _∷_, _++_, append-assoc, append-nil}
 use native.Mathlib.Omega.{arith}
@@ -14,7 +14,7 @@ use Rattle.condition.specs.declared.Condition.{Condition}
 use Rattle.condition.specs.Set.{withCursor, withScrolling, withShown, withFont, withEuro, withLuminance, withSpeed, withFlickerless, withUsers, withPending, withCells, goTo}
 use Rattle.condition.specs.Bytes.{modeOf, internationalOf}
 use Rattle.block.specs.Layout.{conditionIn, pendingOf}
-use Rattle.interpreter.specs.InPlace.{blankOf, heldIn, releasedIn, freshHead, resetIn, withUserBytes, withCount, definedIn}
+use Rattle.interpreter.specs.InPlace.{blankOf, heldIn, releasedIn, resetIn, withUserBytes, definedIn}
 
 -- a property of every list of n elements or more, by its first n elements
 abbrev Each : ℕ → (List ℕ → Type 0) → Type 0
@@ -82,6 +82,10 @@ flickerless-in s v h = stored (λ (l : List ℕ). set l 12 v) (λ (k : Condition
 pub pending-in : (s : List ℕ) (p a n : ℕ) → 200 ≤ length s → conditionIn (set (set (set s 13 p) 14 a) 15 n) ≡ withPending (conditionIn s) (pendingOf p a n)
 unfolding conditionIn
 pending-in s p a n h = stored (λ (l : List ℕ). set (set (set l 13 p) 14 a) 15 n) (λ (k : Condition). withPending k (pendingOf p a n)) (search) s h
+
+-- how many user characters there are
+abbrev withCount : Condition → ℕ → Condition
+withCount c n = withUsers c (usersIn (c .users .bytes) n)
 
 pub count-in : (s : List ℕ) (n : ℕ) → 200 ≤ length s → conditionIn (set s 20 n) ≡ withCount (conditionIn s) n
 unfolding conditionIn
@@ -287,7 +291,10 @@ laid-all : (s d : List ℕ) → length s ≡ length d → laid s d ≡ s
 unfolding laid
 laid-all s d h = rw (← h, take-all (length s) s (omega arith), h, drop-length d) (append-nil s)
 
--- bytes 3 to 20, as at power-up for a font
+-- bytes 3 to 20 at power-up for a font
+abbrev freshHead : ℕ → List ℕ
+freshHead f = 0 ∷ 1 ∷ 0 ∷ 0 ∷ f ∷ f ∷ 0 ∷ 3 ∷ 0x14 ∷ 0 ∷ 0 ∷ 0 ∷ 0 ∷ 0 ∷ 0 ∷ 0 ∷ 0 ∷ 0 ∷ []
+
 reset-in : (s : List ℕ) (f : ℕ) → 200 ≤ length s → conditionIn (spliced 3 18 s (freshHead f)) ≡ resetIn (conditionIn s) f
 unfolding conditionIn
 reset-in s f h = stored (λ (l : List ℕ). spliced 3 18 l (freshHead f)) (λ (k : Condition). resetIn k f) (search) s h

@@ -1,7 +1,7 @@
 -- What the parts of a command make of a condition, for the functions that work in place.
 use Prim.Native.Nat.{ℕ}
 use mathlib.Core.Path.{_≡_}
-use mathlib.Core.List.{List, [], _∷_}
+use mathlib.Core.List.{List}
 use mathlib.Core.Bool.{false}
 use lib.ListN.{set, replicate}
 use Rattle.row.specs.Row.{lineStart, shifted}
@@ -24,10 +24,6 @@ blankOf c f = withCells c (replicate 40 0x20) (replicate 40 f)
 abbrev pub withUserBytes : Condition → List ℕ → Condition
 withUserBytes c x = withUsers c (usersIn x (c .users .count))
 
--- how many user characters there are
-abbrev pub withCount : Condition → ℕ → Condition
-withCount c n = withUsers c (usersIn (c .users .bytes) n)
-
 -- the bytes held, with the fifth, are a user character
 abbrev pub definedIn : Condition → ℕ → ℕ → Condition
 definedIn c code last = withUsers c (defineOf (c .users) code (c .held) last)
@@ -38,10 +34,6 @@ heldIn c n d = withHeld c (set (c .held) n d)
 
 abbrev pub releasedIn : Condition → Condition
 releasedIn c = withHeld c (replicate 4 0)
-
--- bytes 3 to 20 at power-up for a font
-abbrev pub freshHead : ℕ → List ℕ
-freshHead f = 0 ∷ 1 ∷ 0 ∷ 0 ∷ f ∷ f ∷ 0 ∷ 3 ∷ 0x14 ∷ 0 ∷ 0 ∷ 0 ∷ 0 ∷ 0 ∷ 0 ∷ 0 ∷ 0 ∷ 0 ∷ []
 
 -- every field but the cells and the bytes of the user characters, as at power-up for a font
 abbrev pub resetIn : Condition → ℕ → Condition

@@ -1,13 +1,13 @@
 -- What a pull, a fill and a copy make of the places, turn by turn and in the end.
 use Prim.Native.Nat.{ℕ, suc, _+_, _-_, _≤_, _<_, min}
 use mathlib.Core.Path.{_≡_, refl, ap, sym, _∙_}
-use mathlib.Core.List.{List, [], _∷_, _++_, append-nil, append-assoc}
+use mathlib.Core.List.{List, _++_, append-assoc}
 use native.Mathlib.Omega.{arith}
 use native.Mathlib.Numerals.{add-one}
-use lib.ListN.{length, getD, take, drop, set, replicate, length-drop, length-append, length-take, length-replicate, replicate-append-replicate, drop-of-length-le}
+use lib.ListN.{length, getD, take, drop, set, replicate, length-drop, replicate-append-replicate, drop-of-length-le}
 use lib.Seq.{paste, paste-suc, drop-paste, getD-drop, take-all, drop-cons, set-at, length-paste-head, take-suc-set, take-paste, take-suc, drop-length, append-snoc, length-take-le}
 use mathlib.Core.Bool.{Bool, true, false}
-use lib.Dec.{eqb, leb}
+use lib.Dec.{leb}
 use borrow.Author.Tests.{leb-true, leb-false, eq-eqb}
 use Rattle.row.specs.Row.{scrolled, shifted, onPicture, advanced, laid}
 

@@ -1,7 +1,7 @@
 -- Pictures of two lines of 20 places (document 01, The condition), and what moves whole rows.
 use Prim.Native.Nat.{ℕ, _+_, _-_}
-use mathlib.Core.List.{List, [], _∷_, _++_}
-use mathlib.Core.Bool.{Bool, true, false, cond}
+use mathlib.Core.List.{List, _∷_, _++_}
+use mathlib.Core.Bool.{cond}
 use lib.ListN.{length, take, drop, replicate}
 use lib.Dec.{eqb, ltb}
 

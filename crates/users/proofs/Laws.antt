@@ -1,6 +1,6 @@
 -- What the functions cite: a place that is found is below the count; a character is defined by how its lookup goes; dots.
 use Prim.Native.Nat.{ℕ, zero, suc, _+_, _-_, _*_, _/_, _^_, _%_, _<_, _≤_, min}
-use mathlib.Core.Path.{_≡_, refl, sym, ap, _∙_}
+use mathlib.Core.Path.{_≡_, sym, ap, _∙_}
 use mathlib.Core.List.{List, [], _∷_}
 use mathlib.Core.Bool.{Bool, true, false, cond}
 use native.Mathlib.Omega.{arith}
@@ -12,7 +12,7 @@ use Rattle.users.specs.Dots.{byteOf, dotOf}
 use Rattle.users.specs.declared.Character.{Character}
 use Rattle.users.specs.declared.Users.{Users}
 use Rattle.users.specs.declared.Found.{Found}
-use Rattle.users.specs.declared.Found.the-variants.{Missing, At}
+use Rattle.users.specs.declared.Found.the-variants.{At}
 use Rattle.users.specs.Users.{placeOf, limitOf, foundIn, defineOf, definedAt, usersIn, defineIn}
 
 pub place-below : (us : List ℕ) (code n k j : ℕ) → placeOf us code n k ≡ At j → j < k + n

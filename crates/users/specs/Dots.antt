@@ -1,7 +1,7 @@
 -- The dots of a user character (document 01, What a cell shows).
 use Prim.Native.Nat.{ℕ, zero, suc, _+_, _-_, _/_, _%_, _^_}
-use mathlib.Core.List.{List, [], _∷_}
-use mathlib.Core.Bool.{Bool, true, false, cond, _&&_}
+use mathlib.Core.List.{[], _∷_}
+use mathlib.Core.Bool.{cond, _&&_}
 use lib.ListN.{getD}
 use lib.Dec.{leb}
 use Rattle.users.specs.declared.Character.{Character}

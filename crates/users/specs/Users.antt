@@ -1,6 +1,6 @@
 -- User characters (document 01, The condition): up to 16, code and five bytes, oldest first, in places of six bytes.
 use Prim.Native.Nat.{ℕ, zero, suc, _+_, _*_, _/_, _%_, min}
-use mathlib.Core.List.{List, [], _∷_}
+use mathlib.Core.List.{List}
 use mathlib.Core.Bool.{Bool, true, false, cond}
 use lib.ListN.{length, getD, set}
 use lib.Dec.{eqb, ltb, leb}

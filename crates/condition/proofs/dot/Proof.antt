@@ -3,11 +3,6 @@ use borrow.Author.Tests.{le-leb, lt-leb}
 use borrow.Author.Needs.{needs}
 use Rattle.condition.proofs.dot.Statement.{statement}
 use Rattle.condition.proofs.dot.Tie as tie
-use Rattle.condition.proofs.dot.Reads as reads
-use Rattle.condition.proofs.dot.Lts as lts
-use Rattle.condition.proofs.drawn.Reads as drawn-reads
-use Rattle.condition.proofs.lookup.Reads as lookup-reads
-use Rattle.users.proofs.dot.Reads as dot-reads
 
 returns : tie.Need-returns
 unfolding dotAnswer

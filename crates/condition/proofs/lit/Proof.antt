@@ -2,11 +2,6 @@ use Rattle.condition.specs.Answers.{litAnswer}
 use borrow.Author.Needs.{needs}
 use Rattle.condition.proofs.lit.Statement.{statement}
 use Rattle.condition.proofs.lit.Tie as tie
-use Rattle.condition.proofs.lit.Reads as reads
-use Rattle.condition.proofs.lit.Lts as lts
-use Rattle.condition.proofs.drawn.Reads as drawn-reads
-use Rattle.condition.proofs.lookup.Reads as lookup-reads
-use Rattle.users.proofs.lit.Reads as lit-reads
 
 lookup-requires : tie.Need-lookup-requires
 lookup-requires c κs = search needs

@@ -4,10 +4,6 @@ use Rattle.condition.specs.Answers.{lookupOf}
 use borrow.Author.Needs.{needs}
 use Rattle.condition.proofs.lookup.Statement.{statement}
 use Rattle.condition.proofs.lookup.Tie as tie
-use Rattle.condition.proofs.lookup.Reads as reads
-use Rattle.condition.proofs.lookup.Lts as lts
-use Rattle.condition.proofs.Condition.well_formed.Reads as well-formed-reads
-use Rattle.users.proofs.find.Reads as find-reads
 
 well-formed-requires : tie.Need-well-formed-requires
 well-formed-requires c κs = search needs

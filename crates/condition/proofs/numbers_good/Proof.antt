@@ -3,8 +3,6 @@ use borrow.Author.Needs.{needs}
 use Rattle.condition.specs.Condition.{numbersGood}
 use Rattle.condition.proofs.numbers_good.Statement.{statement}
 use Rattle.condition.proofs.numbers_good.Tie as tie
-use Rattle.condition.proofs.numbers_good.Reads as reads
-use Rattle.condition.proofs.numbers_good.Lts as lts
 
 cast-result : tie.Need-cast-result
 cast-result c = search needs

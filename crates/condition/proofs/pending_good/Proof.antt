@@ -1,18 +1,12 @@
-use mathlib.Core.Path.{_≡_, refl, sym, ap, _∙_}
-use mathlib.Core.Bool.{Bool, true, false}
-use Prim.Native.Nat.{_<_, _≤_}
-use native.Mathlib.Omega.{arith}
+use mathlib.Core.Path.{_≡_, _∙_}
+use Prim.Native.Nat.{_<_}
 use lib.ListN.{length}
-use borrow.Author.Tests.{le-leb, lt-leb}
+use borrow.Author.Tests.{lt-leb}
 use Rattle.condition.proofs.Places.{held-good}
-use Rattle.condition.specs.Condition.{pendingGood, heldOf, allUpTo}
+use Rattle.condition.specs.Condition.{pendingGood, heldOf}
 use borrow.Author.Needs.{needs}
 use Rattle.condition.proofs.pending_good.Statement.{statement}
 use Rattle.condition.proofs.pending_good.Tie as tie
-use Rattle.condition.proofs.pending_good.Reads as reads
-use Rattle.condition.proofs.pending_good.Lts as lts
-use Rattle.condition.proofs.held_of.Reads as held-of-reads
-use Rattle.condition.proofs.up_to.Reads as up-to-reads
 
 held-of-requires : tie.Need-held-of-requires
 held-of-requires c κs = search needs

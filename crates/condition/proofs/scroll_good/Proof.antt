@@ -2,8 +2,6 @@ use mathlib.Core.Path.{refl}
 use Rattle.condition.specs.Condition.{scrollGood}
 use Rattle.condition.proofs.scroll_good.Statement.{statement}
 use Rattle.condition.proofs.scroll_good.Tie as tie
-use Rattle.condition.proofs.scroll_good.Reads as reads
-use Rattle.condition.proofs.scroll_good.Lts as lts
 
 returns : tie.Need-returns
 unfolding scrollGood

@@ -2,15 +2,10 @@ use mathlib.Core.Bool.{Bool}
 use Rattle.users.specs.Users.{isUser}
 use mathlib.Core.Path.{_≡_, sym, _∙_}
 use Rattle.condition.specs.Shows.{showsCode}
-use borrow.Author.Tests.{eq-eqb, le-ltb, lt-ltb, ne-eqb}
+use borrow.Author.Tests.{le-ltb, lt-ltb}
 use borrow.Author.Needs.{needs}
 use Rattle.condition.proofs.shows_code.Statement.{statement}
 use Rattle.condition.proofs.shows_code.Tie as tie
-use Rattle.condition.proofs.shows_code.Reads as reads
-use Rattle.condition.proofs.shows_code.Lts as lts
-use Rattle.condition.proofs.euro_or.Reads as euro-or-reads
-use Rattle.users.proofs.find.Reads as find-reads
-use Rattle.users.proofs.is_found.Reads as is-found-reads
 
 slice-aggregate-find : tie.Need-slice-aggregate-find
 slice-aggregate-find c = search needs

@@ -2,11 +2,6 @@ use Rattle.condition.specs.Answers.{underlineAnswer}
 use borrow.Author.Needs.{needs}
 use Rattle.condition.proofs.underline.Statement.{statement}
 use Rattle.condition.proofs.underline.Tie as tie
-use Rattle.condition.proofs.underline.Reads as reads
-use Rattle.condition.proofs.underline.Lts as lts
-use Rattle.condition.proofs.drawn.Reads as drawn-reads
-use Rattle.condition.proofs.lookup.Reads as lookup-reads
-use Rattle.users.proofs.underline.Reads as underline-reads
 
 lookup-requires : tie.Need-lookup-requires
 lookup-requires c κs = search needs

@@ -1,20 +1,13 @@
 use mathlib.Core.Path.{_≡_, refl, sym, ap, _∙_}
-use mathlib.Core.Bool.{Bool, true, false, not, _&&_}
-use mathlib.Core.List.{List}
-use Prim.Native.Nat.{ℕ, suc, _+_, _*_, _-_, _<_, _≤_}
+use mathlib.Core.Bool.{true, false}
+use Prim.Native.Nat.{_+_, _*_, _-_, _≤_}
 use native.Mathlib.Omega.{arith}
-use lib.ListN.{length, getD, drop, take, length-drop}
+use lib.ListN.{length, getD, drop, length-drop}
 use borrow.Author.Tests.{lt-ltb, le-ltb, not-true, not-false}
 use Rattle.condition.specs.Condition.{absent, usersGood, allUpTo}
-use Rattle.condition.proofs.Places.{users-step}
-use Rattle.condition.proofs.Places.{tail-part}
-use mathlib.Core.Bool.{Bool}
+use Rattle.condition.proofs.Places.{users-step, tail-part}
 use Rattle.condition.proofs.users_good.Statement.{statement}
 use Rattle.condition.proofs.users_good.Tie as tie
-use Rattle.condition.proofs.users_good.Reads as reads
-use Rattle.condition.proofs.users_good.Lts as lts
-use Rattle.condition.proofs.is_absent.Reads as is-absent-reads
-use Rattle.condition.proofs.up_to.Reads as up-to-reads
 
 abbrev Inv-loop : tie.InvT-loop
 Inv-loop n s left₀ at₀ left at = (usersGood n s ≡ usersGood left (drop at s)) × (at + 6 * left ≤ length s) × (left ≤ n)

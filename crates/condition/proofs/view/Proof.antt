@@ -2,14 +2,9 @@ use mathlib.Core.Path.{sym, _∙_}
 use borrow.Author.Tests.{not-true, not-false, le-leb, lt-leb}
 use Rattle.condition.specs.Shows.{showsOf}
 use Rattle.condition.specs.Answers.{viewAnswer}
-use borrow.Author.Tests.{le-ltb, lt-ltb}
 use borrow.Author.Needs.{needs}
 use Rattle.condition.proofs.view.Statement.{statement}
 use Rattle.condition.proofs.view.Tie as tie
-use Rattle.condition.proofs.view.Reads as reads
-use Rattle.condition.proofs.view.Lts as lts
-use Rattle.condition.proofs.Condition.well_formed.Reads as well-formed-reads
-use Rattle.condition.proofs.shows_code.Reads as shows-code-reads
 
 well-formed-requires : tie.Need-well-formed-requires
 well-formed-requires c κs = search needs

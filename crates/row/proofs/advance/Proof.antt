@@ -1,5 +1,4 @@
 use mathlib.Core.Path.{refl, _∙_}
-use native.Mathlib.Omega.{arith}
 use Rattle.row.proofs.Laws.{advance-law, advance-short}
 use borrow.Author.Needs.{needs}
 use Rattle.row.proofs.advance.Statement.{statement}

@@ -1,5 +1,4 @@
 use native.Mathlib.Omega.{arith}
-use borrow.Author.Needs.{needs}
 use Rattle.row.proofs.least.Statement.{statement}
 use Rattle.row.proofs.least.Tie as tie
 

@@ -1,7 +1,6 @@
 use borrow.Author.Tests.{lt-ltb, le-ltb}
 use native.Mathlib.Omega.{arith}
 use Rattle.row.specs.Row.{lineStart}
-use borrow.Author.Needs.{needs}
 use Rattle.row.proofs.line_start.Statement.{statement}
 use Rattle.row.proofs.line_start.Tie as tie
 

@@ -1,5 +1,3 @@
-use Prim.Native.Nat.{_≤_}
-use lib.ListN.{length}
 use lib.Seq.{set-out}
 use borrow.Author.Needs.{needs}
 use mathlib.Core.Path.{sym}

@@ -1,6 +1,6 @@
 use mathlib.Core.Path.{_≡_, _∙_, sym}
 use lib.ListN.{length}
-use borrow.Author.Tests.{eq-eqb, ne-eqb}
+use borrow.Author.Tests.{ne-eqb}
 use Rattle.row.specs.Row.{onPicture, scrolled}
 use Rattle.row.proofs.Laws.{scroll-law, pictured}
 use borrow.Author.Needs.{needs}

@@ -1,6 +1,6 @@
-use mathlib.Core.Path.{_≡_, _∙_, sym}
+use mathlib.Core.Path.{_≡_}
 use lib.ListN.{length}
-use borrow.Author.Tests.{eq-eqb, ne-eqb}
+use borrow.Author.Tests.{ne-eqb}
 use Rattle.row.specs.Row.{onPicture, shifted, lineStart}
 use Rattle.row.proofs.Laws.{shift-law, pictured}
 use borrow.Author.Needs.{needs}

@@ -3,8 +3,6 @@ use Rattle.users.proofs.Laws.{byte-past}
 use borrow.Author.Needs.{needs}
 use Rattle.users.proofs.byte.Statement.{statement}
 use Rattle.users.proofs.byte.Tie as tie
-use Rattle.users.proofs.byte.Reads as reads
-use Rattle.users.proofs.byte.Lts as lts
 
 returns : tie.Need-returns
 returns c = search needs

@@ -3,8 +3,6 @@ use borrow.Author.Tests.{le-leb, lt-leb}
 use borrow.Author.Needs.{needs}
 use Rattle.users.proofs.character_at.Statement.{statement}
 use Rattle.users.proofs.character_at.Tie as tie
-use Rattle.users.proofs.character_at.Reads as reads
-use Rattle.users.proofs.character_at.Lts as lts
 
 returns : tie.Need-returns
 unfolding characterAt

@@ -1,16 +1,11 @@
-use mathlib.Core.Path.{_≡_, refl, sym, _∙_}
+use mathlib.Core.Path.{sym, _∙_}
 use Rattle.users.specs.Users.{defineIn, definedAt}
-use Rattle.users.specs.declared.Found.the-variants.{Missing, At}
+use Rattle.users.specs.declared.Found.the-variants.{Missing}
 use Rattle.users.proofs.Laws.{found-below, defines}
 use borrow.Author.Tests.{ne-eqb, lt-ltb, le-ltb}
 use borrow.Author.Needs.{needs}
 use Rattle.users.proofs.define.Statement.{statement}
 use Rattle.users.proofs.define.Tie as tie
-use Rattle.users.proofs.define.Reads as reads
-use Rattle.users.proofs.define.Lts as lts
-use Rattle.row.proofs.advance.Reads as advance-reads
-use Rattle.users.proofs.find.Reads as find-reads
-use Rattle.users.proofs.put.Reads as put-reads
 
 returns : tie.Need-returns
 unfolding defineIn

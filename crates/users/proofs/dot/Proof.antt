@@ -1,12 +1,8 @@
-use mathlib.Core.Logic.{_⊎_, inl, inr}
+use mathlib.Core.Logic.{inl, inr}
 use Rattle.users.proofs.Laws.{no-dot, dot-law}
-use borrow.Author.Tests.{le-ltb, lt-ltb}
 use borrow.Author.Needs.{needs}
 use Rattle.users.proofs.dot.Statement.{statement}
 use Rattle.users.proofs.dot.Tie as tie
-use Rattle.users.proofs.dot.Reads as reads
-use Rattle.users.proofs.dot.Lts as lts
-use Rattle.users.proofs.byte.Reads as byte-reads
 
 returns : tie.Need-returns
 returns c = no-dot _ _ (inl (c .if1 .taken))

@@ -1,6 +1,5 @@
 use native.Mathlib.Omega.{arith}
 use Rattle.users.specs.Users.{limitOf}
-use borrow.Author.Needs.{needs}
 use Rattle.users.proofs.limit.Statement.{statement}
 use Rattle.users.proofs.limit.Tie as tie
 

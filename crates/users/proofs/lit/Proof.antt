@@ -2,9 +2,6 @@ use Rattle.users.proofs.Ones.{lit-law}
 use borrow.Author.Needs.{needs}
 use Rattle.users.proofs.lit.Statement.{statement}
 use Rattle.users.proofs.lit.Tie as tie
-use Rattle.users.proofs.lit.Reads as reads
-use Rattle.users.proofs.lit.Lts as lts
-use Rattle.users.proofs.ones_in.Reads as ones-in-reads
 
 ones-in-requires : tie.Need-ones-in-requires
 ones-in-requires c κs = search needs

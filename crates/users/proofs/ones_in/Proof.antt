@@ -3,8 +3,6 @@ use lib.Count.{ones-le}
 use borrow.Author.Needs.{needs}
 use Rattle.users.proofs.ones_in.Statement.{statement}
 use Rattle.users.proofs.ones_in.Tie as tie
-use Rattle.users.proofs.ones_in.Reads as reads
-use Rattle.users.proofs.ones_in.Lts as lts
 
 returns : tie.Need-returns
 returns c = (refl, ones-le 8 (c .args .b) (search needs))

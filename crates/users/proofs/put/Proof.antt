@@ -5,8 +5,6 @@ use Rattle.users.specs.Users.{putOf}
 use borrow.Author.Needs.{needs}
 use Rattle.users.proofs.put.Statement.{statement}
 use Rattle.users.proofs.put.Tie as tie
-use Rattle.users.proofs.put.Reads as reads
-use Rattle.users.proofs.put.Lts as lts
 
 slice-write-bytes : tie.Need-slice-write-bytes
 slice-write-bytes c = search needs

@@ -3,9 +3,6 @@ use borrow.Author.Tests.{le-leb, lt-leb}
 use borrow.Author.Needs.{needs}
 use Rattle.condition.proofs.Condition.power_up.Statement.{statement}
 use Rattle.condition.proofs.Condition.power_up.Tie as tie
-use Rattle.condition.proofs.Condition.power_up.Reads as reads
-use Rattle.condition.proofs.Condition.power_up.Lts as lts
-use Rattle.condition.proofs.Condition.powered.Reads as powered-reads
 
 cast-powered : tie.Need-cast-powered
 cast-powered c = search needs

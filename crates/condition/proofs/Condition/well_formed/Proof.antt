@@ -9,15 +9,6 @@ use Rattle.condition.proofs.Places.{count-below}
 use borrow.Author.Needs.{needs}
 use Rattle.condition.proofs.Condition.well_formed.Statement.{statement}
 use Rattle.condition.proofs.Condition.well_formed.Tie as tie
-use Rattle.condition.proofs.Condition.well_formed.Reads as reads
-use Rattle.condition.proofs.Condition.well_formed.Lts as lts
-use Rattle.condition.proofs.is_absent.Reads as is-absent-reads
-use Rattle.condition.proofs.is_idle.Reads as is-idle-reads
-use Rattle.condition.proofs.numbers_good.Reads as numbers-good-reads
-use Rattle.condition.proofs.pending_good.Reads as pending-good-reads
-use Rattle.condition.proofs.scroll_good.Reads as scroll-good-reads
-use Rattle.condition.proofs.up_to.Reads as up-to-reads
-use Rattle.condition.proofs.users_good.Reads as users-good-reads
 
 sized : (c : tie.Start) → length (c .args .self .users .bytes) ≡ 96
 sized c = search needs
