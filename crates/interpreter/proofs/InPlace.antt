@@ -11,6 +11,7 @@ use Rattle.row.specs.Row.{onPicture, laid}
 use Rattle.row.proofs.Laws.{pictured}
 use Rattle.users.specs.Users.{usersIn, defineIn}
 use Rattle.condition.specs.declared.Condition.{Condition}
+use Rattle.condition.specs.Condition.{powerUp}
 use Rattle.condition.specs.Set.{withCursor, withScrolling, withShown, withFont, withEuro, withLuminance, withSpeed, withFlickerless, withUsers, withPending, withCells, goTo}
 use Rattle.condition.specs.Bytes.{modeOf, internationalOf}
 use Rattle.block.specs.Layout.{conditionIn, pendingOf}
@@ -296,7 +297,7 @@ abbrev freshHead : ℕ → List ℕ
 freshHead f = 0 ∷ 1 ∷ 0 ∷ 0 ∷ f ∷ f ∷ 0 ∷ 3 ∷ 0x14 ∷ 0 ∷ 0 ∷ 0 ∷ 0 ∷ 0 ∷ 0 ∷ 0 ∷ 0 ∷ 0 ∷ []
 
 reset-in : (s : List ℕ) (f : ℕ) → 200 ≤ length s → conditionIn (spliced 3 18 s (freshHead f)) ≡ resetIn (conditionIn s) f
-unfolding conditionIn
+unfolding conditionIn powerUp
 reset-in s f h = stored (λ (l : List ℕ). spliced 3 18 l (freshHead f)) (λ (k : Condition). resetIn k f) (search) s h
 
 pub reset-by : (s x : List ℕ) (f : ℕ) → 200 ≤ length s → x ≡ laid (freshHead f) (take 18 (drop 3 s))

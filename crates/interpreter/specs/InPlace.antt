@@ -2,12 +2,11 @@
 use Prim.Native.Nat.{ℕ}
 use mathlib.Core.Path.{_≡_}
 use mathlib.Core.List.{List}
-use mathlib.Core.Bool.{false}
 use lib.ListN.{set, replicate}
 use Rattle.row.specs.Row.{lineStart, shifted}
 use Rattle.users.specs.Users.{defineOf, usersIn}
 use Rattle.condition.specs.declared.Condition.{Condition}
-use Rattle.condition.specs.declared.Pending.the-variants.{Nothing}
+use Rattle.condition.specs.Condition.{powerUp}
 use Rattle.condition.specs.Set.{withCells, withUsers, withHeld}
 use Rattle.condition.specs.Bytes.{stepOf, runOf}
 use Rattle.condition.specs.Busy.{figureOf, busyOf, flickerlessOf}
@@ -35,26 +34,9 @@ heldIn c n d = withHeld c (set (c .held) n d)
 abbrev pub releasedIn : Condition → Condition
 releasedIn c = withHeld c (replicate 4 0)
 
--- every field but the cells and the bytes of the user characters, as at power-up for a font
+-- power-up for a font, but for the cells and the bytes of the user characters
 abbrev pub resetIn : Condition → ℕ → Condition
-resetIn c f =
-    record {
-      codes = c .codes;
-      fonts = c .fonts;
-      cursor = 0;
-      mode = 1;
-      scrolling = false;
-      shown = false;
-      font = f;
-      link = f;
-      euro = false;
-      luminance = 3;
-      speed = 0x14;
-      flickerless = false;
-      users = usersIn (c .users .bytes) 0;
-      pending = Nothing;
-      held = replicate 4 0;
-    }
+resetIn c f = withUsers (withCells (powerUp f) (c .codes) (c .fonts)) (usersIn (c .users .bytes) 0)
 
 -- a byte carried out: the condition after it, and its busy figure
 pub record Stepped (c : Condition) (b : ℕ) (after : Condition) (figure : ℕ) : Type 0 where
