@@ -3,7 +3,7 @@ ghost use mathlib.Core.Path.{_≡_};
 ghost use mathlib.Core.List.{_++_};
 ghost use Prim.Native.Nat.{_≤_};
 ghost use lib.ListN.{length};
-ghost use Rattle.condition.specs.Condition.{heldOf, allUpTo};
+ghost use Rattle.condition.specs.Condition.{heldOf};
 ghost use Rattle.block.specs.Layout.{flag, kindOf, codeOf, headOf, packedOf, pendingOf, conditionIn};
 ghost use Rattle.block.specs.Block.{weigh, checkOf, blockOf};
 ghost use Rattle.block.specs.Reading.{intact, refusedOf, ReadPromise};
@@ -320,19 +320,6 @@ fn is_intact(block: &[u8]) -> bool
         & (block[CHECK + 1] == (sum / 256) as u8)
 }
 
-fn all_zero(s: &[u8]) -> bool
-    ensures { λ r. ⌜ r ≡ allUpTo 0 (now (s .entry)) ⌝ }
-{
-    let mut i = 0;
-    while i < s.len() {
-        if 0 < s[i] {
-            return false;
-        }
-        i += 1;
-    }
-    true
-}
-
 fn kind_good(kind: u8, code: u8, holds: u8) -> bool
     ensures { λ r. ⌜ r ≡ kindGood kind code holds ⌝ }
 {
@@ -352,8 +339,8 @@ fn is_tidy(block: &[u8]) -> bool
         & (block[EURO] <= 1)
         & (block[FLICKERLESS] <= 1)
         & kind_good(block[KIND], block[CODE], block[HOLDS])
-        & all_zero(&block[UNUSED..CODES])
-        & all_zero(&block[PACKED..CHECK])
+        & condition::up_to(0, &block[UNUSED..CODES])
+        & condition::up_to(0, &block[PACKED..CHECK])
 }
 
 // A refused reading gives power-up for font 0.

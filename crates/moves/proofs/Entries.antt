@@ -1,15 +1,15 @@
 -- The table by its rows: what stands at each entry.
 use mathlib.Core.Path.{_≡_, refl, sym, ap, subst, _∙_}
 use mathlib.Core.Bool.{Bool, true, false, cond, _&&_}
-use mathlib.Core.List.{List, [], _∷_}
+use mathlib.Core.List.{List, []}
 use Prim.Native.Nat.{ℕ, zero, suc, _+_, _<_, _≤_}
 use native.Mathlib.Omega.{arith}
 use native.Mathlib.Nat.{add-zero, zero-add, add-suc, suc-add}
 use lib.Dec.{ltb}
 use lib.ListN.{getD}
-use borrow.Author.Tests.{lt-ltb, le-ltb, ltb-true, ltb-false}
-use Rattle.moves.specs.Moves.{places, dist, fewestOf, listed, numbersOf, numberIn, Numbers, Ruled, Table}
-use Rattle.moves.proofs.Rule.{fewest-is, ruled}
+use borrow.Author.Tests.{ltb-true, ltb-false}
+use Rattle.moves.specs.Moves.{dist, fewestOf, listed, numbersOf, numberIn, Numbers, Ruled, Table}
+use Rattle.moves.proofs.Rule.{ruled}
 
 -- an element of a list that is made place by place, and what stands behind its end
 listed-at : {A : Type 0} (f : ℕ → A) (d : A) (n i k : ℕ) → k < n → getD (listed f n i) k d ≡ f (i + k)

@@ -1,12 +1,13 @@
 -- The moves are the interpreter's: in mode 1, nothing half received and no user character on the byte, what a byte of a move does
 -- (crates/condition/specs/Bytes) is to bring the cursor to where the move leads.
-use mathlib.Core.Path.{_≡_, refl, sym, ap, _∙_}
+use mathlib.Core.Path.{_≡_, refl, sym, ap, _∙_, subst}
 use mathlib.Core.Logic.{⊎-elim}
-use mathlib.Core.Bool.{Bool, true, false, cond, or-assoc, or-false}
+use mathlib.Core.Bool.{Bool, true, false, cond, _||_, or-assoc, or-false}
 use mathlib.Core.List.{List, [], _∷_}
-use Prim.Native.Nat.{ℕ, _+_, _-_, _%_, _<_}
+use Prim.Native.Nat.{ℕ, _+_, _-_, _%_, _≤_, _<_}
 use native.Mathlib.Omega.{arith}
 use lib.Dec.{eqb, ltb, leb}
+use lib.ListN.{length}
 use borrow.Author.Tests.{eqb-true, eqb-false, eq-eqb, ne-eqb, ltb-true, ltb-false, lt-ltb, le-ltb, leb-true, le-leb}
 use Rattle.row.specs.Row.{lineStart}
 use Rattle.users.specs.Users.{isUser}
@@ -16,13 +17,23 @@ use Rattle.condition.specs.declared.Pending.the-variants.{Nothing, Escape, Posi
 use Rattle.condition.specs.Condition.{idle, wellFormed}
 use Rattle.condition.specs.Set.{withCursor, withCell, withScrolling, withPending, goTo}
 use Rattle.condition.specs.Bytes.{leftOf, rightOf, downOf, returnOf, writeOf, isChar, controlOf, escapeOf, positionOf, stepAt, stepOf, runOf}
-use Rattle.condition.specs.Steps.{isMove}
+use Rattle.condition.specs.Steps.{isMove, stepByte, lowAfter, inOrder}
 use Rattle.condition.proofs.Good.{good}
 use Rattle.condition.proofs.Kept.{scroll-off}
 use Rattle.moves.specs.Moves.{any, left, next, down, moves, move}
-use Rattle.moves.specs.Ways.{Half, none, escape, place, leadsTo}
+use Rattle.moves.specs.Ways.{Half, none, escape, place, path, leadsTo, atMost}
 use Rattle.moves.proofs.Lists.{bool, clash, and-left, and-right}
 use Rattle.moves.proofs.Moving.{each-move, move-below}
+use Rattle.moves.proofs.Strings.{shortest}
+
+-- a byte that is no character is no user code
+pub no-user : (c : Condition) (b : ℕ) → isChar c b ≡ false → isUser (c .users) b ≡ false
+unfolding isChar
+no-user c b e = left-false (isUser (c .users) b) (leb 0x20 b) e
+  where
+    left-false : (s t : Bool) → (s || t) ≡ false → s ≡ false
+    left-false true t h = h
+    left-false false t h = refl
 
 -- a condition from which moves start
 pub record Ready (c : Condition) : Type 0 where
@@ -122,6 +133,14 @@ pub placed : (c : Condition) (p : ℕ) → c .scrolling ≡ false → p < 40 →
 unfolding stepAt positionOf
 placed c p e h = rw (le-leb p 0x27 (omega arith)) (go-is (withPending c Nothing) p e)
 
+pub is-move : (b : ℕ) → isMove b ≡ any (eqb b) moves
+unfolding isMove
+is-move b = simp (or-assoc, or-false)
+
+left-true : (s : Bool) → (s || false) ≡ true → s ≡ true
+left-true true h = h
+left-true false h = h
+
 -- Whole strings of moves -----------------------------------------------------------------------------------------------------
 
 abbrev pub half : Half → Pending
@@ -162,10 +181,6 @@ leads-there c r free free27 (x ∷ xs) place a b h l =
 
 -- In the words of the condition's own definitions ----------------------------------------------------------------------------
 
-pub is-move : (b : ℕ) → isMove b ≡ any (eqb b) moves
-unfolding isMove
-is-move b = simp (or-assoc, or-false)
-
 -- a one-byte move of a well-formed condition in mode 1, nothing half received and no user character on the byte
 pub move-law : (c : Condition) (m : ℕ) → wellFormed c ≡ true → c .mode ≡ 1 → idle (c .pending) ≡ true → isUser (c .users) m ≡ false
     → isMove m ≡ true → stepOf c m ≡ withCursor c (move m (c .cursor))
@@ -180,3 +195,57 @@ string-law c bs b w one p free free27 l =
     ap (λ (d : Condition). runOf d bs) (λ i. withPending c (r .whole i))
     ∙ leads-there c r free free27 bs none (c .cursor) b (r .inside) l
     ∙ (λ i. withPending (withCursor c b) (sym (r .whole) i))
+
+-- what is shown of a condition, shown of one that is the same
+go : (k : Half) (a : ℕ) (xs : List ℕ) {d e : Condition} → d ≡ e → (inOrder e 40 xs ≡ true → leadsTo k a (runOf e xs .cursor) xs ≡ true)
+    → inOrder d 40 xs ≡ true → leadsTo k a (runOf d xs .cursor) xs ≡ true
+go k a xs n f o =
+    subst (λ (e : Condition). leadsTo k a (runOf e xs .cursor) xs ≡ true) (sym n) (f (subst (λ (e : Condition). inOrder e 40 xs ≡ true) n o))
+
+-- The other way round: a string of the planner's steps that writes nothing is a string of moves. No cell is at 40, so where no cell below 40
+-- may be written a string in order has no write.
+leads-back : (c : Condition) → Ready c → (bs : List ℕ) (k : Half) (a : ℕ) → a < 40 → inOrder (partly c k a) 40 bs ≡ true
+    → leadsTo k a (runOf (partly c k a) bs .cursor) bs ≡ true
+unfolding runOf leadsTo inOrder stepByte lowAfter escapeOf stepAt isChar
+leads-back c r [] none a h o = eq-eqb a a refl
+leads-back c r [] escape a h o = clash o refl
+leads-back c r [] place a h o = clash o refl
+leads-back c r (x ∷ xs) none a h o =
+    let d = partly c none a in
+    let may = and-left (stepByte Nothing d 40 x) (inOrder (stepOf d x) (lowAfter d 40 x) xs) o in
+    let rest = and-right (stepByte Nothing d 40 x) (inOrder (stepOf d x) (lowAfter d 40 x) xs) o in
+    ⊎-elim
+    (λ (e : isChar c x ≡ true). let l : 40 ≤ a = leb-true 40 a (rw e at may) in absurd (omega arith))
+    (λ (e : isChar c x ≡ false). let m : (isMove x || eqb x 0x1B) ≡ true = rw e at may in
+    let low : lowAfter d 40 x ≡ 40 = rw e in
+    let on = subst (λ (n : ℕ). inOrder (stepOf d x) n xs ≡ true) low rest in
+    let u = no-user c x e in
+    ⊎-elim
+    (λ (z : eqb x 0x1B ≡ true). let n = ap (stepOf d) (eqb-true x 0x1B z) ∙ escapes d (partly-ready c a r h) (ap (isUser (c .users)) (sym (eqb-true x 0x1B z)) ∙ u) in
+    rw z (go escape a xs n (leads-back c r xs escape a h) on))
+    (λ (z : eqb x 0x1B ≡ false). let i : any (eqb x) moves ≡ true = sym (is-move x) ∙ left-true (isMove x) (rw z at m) in
+    let n = moves-to d (partly-ready c a r h) x i u in
+    rw (z, i) (go none (move x a) xs n (leads-back c r xs none (move x a) (move-below x a h)) on))
+    (bool (eqb x 0x1B)))
+    (bool (isChar c x))
+leads-back c r (x ∷ xs) escape a h o =
+    let e = and-left (eqb x 0x48) _ o in
+    let n = ap (stepOf (partly c escape a)) (eqb-true x 0x48 e) in
+    rw e (go place a xs n (leads-back c r xs place a h) (and-right (eqb x 0x48) _ o))
+leads-back c r (x ∷ xs) place a h o =
+    let e = and-left (leb x 0x27) _ o in
+    let z : x < 40 = (let k = leb-true x 0x27 e in omega arith) in
+    let n = placed (withCursor c a) x (r .still) z in
+    rw e (go none x xs n (leads-back c r xs none x z) (and-right (leb x 0x27) _ o))
+
+pub writeless : (c : Condition) (bs : List ℕ) → Ready c → inOrder c 40 bs ≡ true → leadsTo none (c .cursor) (runOf c bs .cursor) bs ≡ true
+writeless c bs r o = go none (c .cursor) bs (λ i. withPending c (r .whole i)) (leads-back c r bs none (c .cursor) (r .inside)) o
+
+-- so, of all strings of the planner's steps that write nothing and bring the cursor to b, none is shorter than its way, and none of that
+-- length is smaller
+pub way-law : (c : Condition) (bs : List ℕ) (b : ℕ) → Ready c → b < 40 → inOrder c 40 bs ≡ true → runOf c bs .cursor ≡ b
+    → (length (path (c .cursor) b) ≤ length bs) × (length bs ≡ length (path (c .cursor) b) → atMost (path (c .cursor) b) bs ≡ true)
+way-law c bs b r h o e =
+    let l = subst (λ (p : ℕ). leadsTo none (c .cursor) p bs ≡ true) e (writeless c bs r o) in
+    let w = shortest (c .cursor) b h in
+    (w .fewest bs l, w .smallest bs l)

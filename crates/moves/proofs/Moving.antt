@@ -6,7 +6,7 @@ use Prim.Native.Nat.{ℕ, zero, suc, _+_, _%_, _≤_, _<_}
 use native.Mathlib.Omega.{arith}
 use lib.Dec.{eqb, ltb}
 use lib.ListN.{length}
-use borrow.Author.Tests.{eqb-true, eqb-false, eq-eqb, ltb-true, ltb-false}
+use borrow.Author.Tests.{eqb-true, eq-eqb, ltb-true, ltb-false}
 use Rattle.row.specs.Row.{lineStart}
 use Rattle.moves.specs.Moves.{any, find, left, next, down, moves, move, near1, near2, rank, dist}
 use Rattle.moves.specs.Ways.{leaves, firstByte, pathOf, path}

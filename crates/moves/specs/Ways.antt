@@ -1,12 +1,11 @@
 -- The way: the move string with the fewest bytes from a place to another, of equals the smallest by first differing byte.
-use Prim.Native.Nat.{ℕ, zero, suc, _≤_, _<_}
+use Prim.Native.Nat.{ℕ, zero, suc, _≤_}
 use mathlib.Core.Path.{_≡_}
 use mathlib.Core.List.{List, [], _∷_}
 use mathlib.Core.Bool.{Bool, true, false, cond, _&&_, _||_}
-use lib.ListN.{length, take}
+use lib.ListN.{length}
 use lib.Dec.{eqb, ltb, leb}
-use lib.Seq.{sets}
-use Rattle.moves.specs.Moves.{any, find, places, moves, move, dist}
+use Rattle.moves.specs.Moves.{any, find, moves, move, dist}
 
 -- the move m from a leaves n bytes to b
 unfoldable pub leaves : ℕ → ℕ → ℕ → ℕ → Bool

@@ -1,8 +1,8 @@
 -- Demand 3 over what a byte does: the plan of a condition that can be planned from delivers the picture, in one font or in two.
-use mathlib.Core.Path.{_≡_, refl, sym, ap, _∙_, subst}
+use mathlib.Core.Path.{_≡_, refl, sym, ap, _∙_}
 use mathlib.Core.Logic.{⊎-elim}
 use mathlib.Core.Bool.{Bool, true, false}
-use mathlib.Core.List.{List, [], _∷_, _++_}
+use mathlib.Core.List.{List, _∷_, _++_}
 use Prim.Native.Nat.{ℕ, zero, suc, _+_, _≤_, _<_}
 use native.Mathlib.Omega.{arith}
 use lib.Dec.{eqb}
@@ -10,17 +10,17 @@ use lib.ListN.{length, getD, replicate, length-replicate, getD-replicate}
 use Rattle.condition.specs.declared.Condition.{Condition}
 use Rattle.condition.specs.Set.{withCells, withCursor, withPending, withFont, withEuro}
 use Rattle.condition.specs.Bytes.{isChar, runOf}
-use Rattle.condition.specs.Steps.{readingOrder, wrong}
+use Rattle.condition.specs.Steps.{wrong}
 use Rattle.moves.specs.Moves.{any, moves, next}
 use Rattle.moves.specs.Ways.{path}
 use Rattle.moves.proofs.Lists.{bool}
 use Rattle.moves.proofs.Interpreter.{Ready}
-use Rattle.planner.specs.Plan.{flagged, planOf, plan, pictured, Pictured, Delivers}
-use Rattle.planner.specs.Fonts.{switch, wrongFor, fontsPlanOf, fontsPlan, picturedIn, fontOrder, FontsDelivers}
-use Rattle.planner.proofs.Glass.{Part, none, Glass, glass, wrongIn, run, ordered}
+use Rattle.planner.specs.Plan.{flagged, planOf, plan, Pictured, Delivers}
+use Rattle.planner.specs.Fonts.{wrongFor, fontsPlanOf, fontsPlan, picturedIn, FontsDelivers}
+use Rattle.planner.proofs.Glass.{wrongIn, run, ordered}
 use Rattle.planner.proofs.Costs.{flagged-yes, flagged-no, flagged-same, switch-none, cost-plain, cost-most, length-plan}
 use Rattle.planner.proofs.Picture.{wrongsIn, Switches, deliver, stays, switches-both, Reaches, plan-reaches, plan-fewest}
-use Rattle.planner.proofs.Seam.{pendingAt, fontAt, markAt, embed, glassOf, run-is, order-is, font-order-is, ends}
+use Rattle.planner.proofs.Seam.{pendingAt, fontAt, markAt, glassOf, run-is, order-is, font-order-is, ends}
 
 -- a condition that can be planned from, and codes that it can show
 pub record Plannable (c : Condition) (wanted : List ℕ) (asked : ℕ) : Type 0 where

@@ -1,13 +1,11 @@
 -- The glass is the module itself, where that is in mode 1 and reads the planner's steps.
 use mathlib.Core.Path.{_≡_, refl, sym, ap, _∙_}
-use mathlib.Core.Logic.{⊎-elim}
 use mathlib.Core.Bool.{Bool, true, false, cond, not, _&&_, _||_, or-false}
 use mathlib.Core.List.{List, [], _∷_}
 use Prim.Native.Nat.{ℕ, _<_}
 use native.Mathlib.Numerals.{add-one}
 use native.Mathlib.Omega.{arith}
 use lib.Dec.{eqb, leb}
-use lib.ListN.{set}
 use borrow.Author.Tests.{eqb-true, eq-eqb, leb-true}
 use Rattle.users.specs.Users.{isUser}
 use Rattle.condition.specs.declared.Condition.{Condition}
@@ -18,10 +16,10 @@ use Rattle.condition.specs.Set.{withCells, withCursor, withPending, withFont, w
 use Rattle.condition.specs.Bytes as B
 use Rattle.condition.specs.Bytes.{isChar, controlOf, escapeOf, stepOf, runOf}
 use Rattle.condition.specs.Steps.{stepByte, lowAfter, inOrder, readingOrder}
-use Rattle.moves.specs.Moves.{any, moves, move, next}
-use Rattle.moves.proofs.Lists.{bool, clash, and-left, and-right}
+use Rattle.moves.specs.Moves.{any, moves}
+use Rattle.moves.proofs.Lists.{clash, and-left, and-right}
 use Rattle.moves.proofs.Moving.{next-below, move-below}
-use Rattle.moves.proofs.Interpreter.{Ready, moves-to, escapes, writes, placed, is-move}
+use Rattle.moves.proofs.Interpreter.{Ready, no-user, moves-to, escapes, writes, placed, is-move}
 use Rattle.planner.specs.Fonts.{owed, fontByte, inFontOrder, fontOrder}
 use Rattle.planner.proofs.Glass.{Part, none, escape, place, back, Glass, glass, stepAt, step, run, allowed, lowAt, whole, ordered, by-kind}
 
@@ -59,14 +57,6 @@ owes none = false
 owes escape = false
 owes place = false
 owes back = true
-
-no-user : (c : Condition) (b : ℕ) → isChar c b ≡ false → isUser (c .users) b ≡ false
-unfolding isChar
-no-user c b e = left-false (isUser (c .users) b) (leb 0x20 b) e
-  where
-    left-false : (s t : Bool) → (s || t) ≡ false → s ≡ false
-    left-false true t h = h
-    left-false false t h = refl
 
 no-char : (s t : Bool) → (not s && t) ≡ true → s ≡ false
 no-char true t x = sym x

@@ -1,7 +1,7 @@
 // The refusals of the planners.
 use condition::Condition;
 ghost use mathlib.Core.Path.{_≡_};
-ghost use mathlib.Core.Bool.{cond, _&&_, _||_, not};
+ghost use mathlib.Core.Bool.{cond};
 ghost use Rattle.users.specs.Users.{isUser, usersIn};
 ghost use Rattle.planner.specs.Answer.{onMove, onSwitch, lacks, someLacks, refusalBy, planRefusal, fontsRefusal};
 

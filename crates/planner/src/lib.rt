@@ -1,6 +1,5 @@
 // The planners: the bytes that give a picture and a cursor, in one font or in two.
 use condition::Condition;
-ghost use mathlib.Core.Path.{_≡_};
 ghost use Rattle.planner.specs.Answer.{Plans, PlansFonts};
 
 mod bytes;

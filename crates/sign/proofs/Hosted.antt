@@ -1,23 +1,23 @@
 -- What the host's calls leave, by where they stop.
 use mathlib.Core.Path.{_≡_, refl, sym, ap, _∙_, subst}
 use mathlib.Core.Logic.{_⊎_, inl, inr, ⊎-elim}
-use mathlib.Core.Bool.{Bool, true, false, cond, not}
-use mathlib.Core.List.{List, [], _∷_, _++_, append-nil}
-use Prim.Native.Nat.{ℕ, _+_, _≤_, _<_}
+use mathlib.Core.Bool.{Bool, true, false, cond}
+use mathlib.Core.List.{List}
+use Prim.Native.Nat.{ℕ, _+_}
 use native.Mathlib.Omega.{arith}
-use lib.Dec.{eqb, ltb, leb}
-use lib.ListN.{length, take, drop}
+use lib.Dec.{eqb, leb}
+use lib.ListN.{length, take}
 use borrow.Author.Tests.{eqb-true, eqb-false, eq-eqb, ne-eqb, leb-true}
 use Rattle.moves.proofs.Lists.{bool}
 use Rattle.condition.specs.declared.Condition.{Condition}
 use Rattle.condition.specs.declared.Outcome.{Outcome}
-use Rattle.condition.specs.Condition.{wellFormed, powerUp}
+use Rattle.condition.specs.Condition.{powerUp}
 use Rattle.condition.specs.Answers.{powerUpAnswer}
 use Rattle.condition.proofs.Good.{Sized, run-sized}
 use Rattle.condition.proofs.Kept.{power-up-good}
 use Rattle.block.specs.Layout.{conditionIn}
 use Rattle.block.specs.Block.{blockOf}
-use Rattle.block.specs.Reading.{readRefusal, readAnswer, ReadPromise}
+use Rattle.block.specs.Reading.{readRefusal, ReadPromise}
 use Rattle.block.specs.Writing.{writeRefusal, writeAnswer, writeOut, WritePromise}
 use Rattle.block.specs.declared.Written.{Written}
 use Rattle.row.specs.Row.{laid}

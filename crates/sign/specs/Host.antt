@@ -6,7 +6,6 @@ use mathlib.Core.Bool.{Bool, cond, not, _&&_}
 use mathlib.Core.List.{List, [], _∷_, _++_}
 use lib.ListN.{length, getD, take, drop}
 use lib.Dec.{eqb, ltb, leb}
-use Rattle.condition.specs.declared.Condition.{Condition}
 use Rattle.condition.specs.Condition.{powerUp}
 use Rattle.block.specs.Layout.{conditionIn}
 use Rattle.block.specs.Block.{blockOf}

@@ -27,33 +27,33 @@ shared-slice-read-kind-good-3 c = search needs
 kind-good-requires : tie.Need-kind-good-requires
 kind-good-requires c κs = search needs
 
-sub-all-zero : tie.Need-sub-all-zero
-sub-all-zero c = search needs
+sub-up-to : tie.Need-sub-up-to
+sub-up-to c = search needs
 
-part-all-zero-start : tie.Need-part-all-zero-start
-part-all-zero-start c = search needs
+part-up-to-start : tie.Need-part-up-to-start
+part-up-to-start c = search needs
 
-part-all-zero-end : tie.Need-part-all-zero-end
-part-all-zero-end c = search needs
+part-up-to-end : tie.Need-part-up-to-end
+part-up-to-end c = search needs
 
-all-zero-requires : tie.Need-all-zero-requires
-all-zero-requires c κs = search needs
+up-to-requires : tie.Need-up-to-requires
+up-to-requires c κs = search needs
 
-sub-all-zero-2 : tie.Need-sub-all-zero-2
-sub-all-zero-2 c = search needs
+sub-up-to-2 : tie.Need-sub-up-to-2
+sub-up-to-2 c = search needs
 
-part-all-zero-start-2 : tie.Need-part-all-zero-start-2
-part-all-zero-start-2 c = search needs
+part-up-to-start-2 : tie.Need-part-up-to-start-2
+part-up-to-start-2 c = search needs
 
-part-all-zero-end-2 : tie.Need-part-all-zero-end-2
-part-all-zero-end-2 c = search needs
+part-up-to-end-2 : tie.Need-part-up-to-end-2
+part-up-to-end-2 c = search needs
 
-all-zero-requires-2 : tie.Need-all-zero-requires-2
-all-zero-requires-2 c κs = search needs
+up-to-requires-2 : tie.Need-up-to-requires-2
+up-to-requires-2 c κs = search needs
 
 returns : tie.Need-returns
 unfolding tidy
-returns c = rw (c .all-zero2 .ensures, c .before .before .all-zero .ensures, c .before .before .before .before .kind-good .ensures)
+returns c = rw (c .up-to2 .ensures, c .before .before .up-to .ensures, c .before .before .before .before .kind-good .ensures)
 
 pub is-tidy-spec : {M : Type 1} → statement M
 is-tidy-spec =
@@ -67,12 +67,12 @@ is-tidy-spec =
     shared-slice-read-kind-good-2
     shared-slice-read-kind-good-3
     kind-good-requires
-    sub-all-zero
-    part-all-zero-start
-    part-all-zero-end
-    all-zero-requires
-    sub-all-zero-2
-    part-all-zero-start-2
-    part-all-zero-end-2
-    all-zero-requires-2
+    sub-up-to
+    part-up-to-start
+    part-up-to-end
+    up-to-requires
+    sub-up-to-2
+    part-up-to-start-2
+    part-up-to-end-2
+    up-to-requires-2
     returns)

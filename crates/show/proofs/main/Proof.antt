@@ -3,6 +3,13 @@ use lib.Seq.{length-take-le}
 use borrow.Author.Needs.{needs}
 use Rattle.show.proofs.main.Statement.{statement}
 use Rattle.show.proofs.main.Tie as tie
+use Rattle.show.proofs.main.Reads as reads
+use Rattle.show.proofs.main.Lts as lts
+use Rattle.condition.proofs.Condition.power_up.Reads as power-up-reads
+use Rattle.interpreter.proofs.run.Reads as run-reads
+use Rattle.io.proofs.read_full.Reads as read-full-reads
+use Rattle.io.proofs.write_all.Reads as write-all-reads
+use Rattle.show.proofs.add_shown.Reads as add-shown-reads
 
 slice-aggregate-read-full : tie.Need-slice-aggregate-read-full
 slice-aggregate-read-full c = search needs

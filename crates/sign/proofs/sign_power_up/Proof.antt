@@ -1,13 +1,7 @@
 use Rattle.sign.proofs.Hosted.{power-up-refused, power-up-written}
-use borrow.Author.Tests.{eq-eqb, ne-eqb}
 use borrow.Author.Needs.{needs}
 use Rattle.sign.proofs.sign_power_up.Statement.{statement}
 use Rattle.sign.proofs.sign_power_up.Tie as tie
-use Rattle.sign.proofs.sign_power_up.Reads as reads
-use Rattle.sign.proofs.sign_power_up.Lts as lts
-use Rattle.block.proofs.write.Reads as write-reads
-use Rattle.condition.proofs.Condition.power_up.Reads as power-up-reads
-use Rattle.sign.proofs.wide.Reads as wide-reads
 
 power-up-requires : tie.Need-power-up-requires
 power-up-requires c κs = search needs

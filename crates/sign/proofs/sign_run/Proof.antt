@@ -1,17 +1,7 @@
 use Rattle.sign.proofs.Hosted.{run-short, run-unread, run-stopped, run-written}
-use borrow.Author.Tests.{eq-eqb, ne-eqb}
 use borrow.Author.Needs.{needs}
 use Rattle.sign.proofs.sign_run.Statement.{statement}
 use Rattle.sign.proofs.sign_run.Tie as tie
-use Rattle.sign.proofs.sign_run.Reads as reads
-use Rattle.sign.proofs.sign_run.Lts as lts
-use Rattle.block.proofs.read.Reads as read-reads
-use Rattle.block.proofs.sealed.Reads as sealed-reads
-use Rattle.interpreter.proofs.run.Reads as run-reads
-use Rattle.row.proofs.copy.Reads as copy-reads
-use Rattle.sign.proofs.tally_at.Reads as tally-at-reads
-use Rattle.sign.proofs.tally_bytes.Reads as tally-bytes-reads
-use Rattle.sign.proofs.wide.Reads as wide-reads
 
 returns : tie.Need-returns
 returns c = run-short _ _ _ (c .if1 .taken)

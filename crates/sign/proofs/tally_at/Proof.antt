@@ -2,9 +2,6 @@ use Rattle.sign.specs.Host.{tallyAt}
 use borrow.Author.Needs.{needs}
 use Rattle.sign.proofs.tally_at.Statement.{statement}
 use Rattle.sign.proofs.tally_at.Tie as tie
-use Rattle.sign.proofs.tally_at.Reads as reads
-use Rattle.sign.proofs.tally_at.Lts as lts
-use Rattle.sign.proofs.number_at.Reads as number-at-reads
 
 number-at-requires : tie.Need-number-at-requires
 number-at-requires c κs = search needs

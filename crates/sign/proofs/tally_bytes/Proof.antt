@@ -2,9 +2,6 @@ use Rattle.sign.specs.Host.{tallyBytes}
 use borrow.Author.Needs.{needs}
 use Rattle.sign.proofs.tally_bytes.Statement.{statement}
 use Rattle.sign.proofs.tally_bytes.Tie as tie
-use Rattle.sign.proofs.tally_bytes.Reads as reads
-use Rattle.sign.proofs.tally_bytes.Lts as lts
-use Rattle.sign.proofs.four_bytes.Reads as four-bytes-reads
 
 four-bytes-requires : tie.Need-four-bytes-requires
 four-bytes-requires c κs = search needs
