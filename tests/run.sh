@@ -1,5 +1,5 @@
 #!/bin/sh
-# Builds and runs one test: tests/run.sh self | show | host | plans | fonts | alike | c-host | example | dump
+# Builds and runs one test: tests/run.sh self | show | tell | host | plans | fonts | alike | c-host | example | dump
 # or a measure: tests/run.sh speed | costs. See tests/README.md.
 set -eu
 cd "$(dirname "$0")/.."
@@ -9,7 +9,7 @@ mkdir -p "$out"
 
 # Is this product missing, or older than its sources?
 stale() { [ ! -e "$1" ] || [ -n "$(find crates crates.txt -newer "$1" 2>/dev/null | head -n 1)" ]; }
-show_program() { if stale target/bin/show; then rt check show; fi; }
+program() { if stale "target/bin/$1"; then rt check "$1"; fi; }
 library() { if stale target/staticlib/libsign.a; then rt staticlib sign; fi; }
 
 # alone NAME: a test program of this machine; linked NAME WORDS: one that is linked with libsign.a
@@ -58,11 +58,11 @@ self)
     alone self
     "$out/self"
     ;;
-show)
-    show_program
-    alone show
+show | tell)
+    program "$1"
+    alone "$1"
     # shellcheck disable=SC2086
-    "$out/show" $RUN target/bin/show
+    "$out/$1" $RUN "target/bin/$1"
     ;;
 host | plans | fonts)
     linked "$1" -C overflow-checks=on
@@ -112,7 +112,7 @@ costs)
     objdump -dr target/staticlib/libsign.a | python3 tests/stack.py
     ;;
 *)
-    echo "usage: tests/run.sh self | show | host | plans | fonts | alike | c-host | example | dump | speed | costs" >&2
+    echo "usage: tests/run.sh self | show | tell | host | plans | fonts | alike | c-host | example | dump | speed | costs" >&2
     exit 2
     ;;
 esac

@@ -262,3 +262,43 @@ pub fn mixed(length: usize) -> Vec<u8> {
     out.truncate(length);
     out
 }
+
+/// ESC 43h: a user character.
+pub fn define(code: u8, data: [u8; 5]) -> Vec<u8> {
+    let mut s = vec![0x1B, 0x43, code];
+    s.extend_from_slice(&data);
+    s
+}
+
+/// A user character on each code, and then written.
+pub fn users_on_every_code() -> Vec<Vec<u8>> {
+    let mut all = Vec::new();
+    for code in 0..=255u8 {
+        let mut input = define(code, [code, 0x1B, 0x49, 0x0E, 0xFF]);
+        input.extend_from_slice(&[0x41, code, 0x42, 0x1B, 0x48, 0x26, code, code, code]);
+        all.push(input);
+    }
+    all
+}
+
+/// 15 to 20 user characters, with one defined again before the 17th, each then written.
+pub fn many_users() -> Vec<Vec<u8>> {
+    let mut all = Vec::new();
+    for n in 15..=20usize {
+        for again in 0..n {
+            let mut input = Vec::new();
+            for i in 0..n {
+                if i == 16 {
+                    input.extend(define(again as u8, [9; 5]));
+                }
+                input.extend(define(i as u8, [i as u8; 5]));
+            }
+            for i in 0..n as u8 {
+                input.push(i);
+            }
+            input.extend_from_slice(&[0x08, 0x0A, 0x58]);
+            all.push(input);
+        }
+    }
+    all
+}

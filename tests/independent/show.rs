@@ -3,104 +3,13 @@
 
 mod inputs;
 mod module;
+mod program;
 mod report;
 mod rng;
 
 use inputs::{commands, Flavour};
-use report::{first_difference, hex, Report};
+use program::{By, Program};
 use rng::Rng;
-use std::fs::File;
-use std::io::{Read, Write};
-use std::process::{Command, Stdio};
-use std::time::Duration;
-
-/// How the input reaches the program.
-#[derive(Clone, Copy, PartialEq)]
-enum By {
-    Pipe,
-    Pieces,
-    File,
-}
-
-struct Shows {
-    words: Vec<String>,
-    report: Report,
-}
-
-impl Shows {
-    fn try_on(&mut self, input: &[u8], by: By) {
-        let mut command = Command::new(&self.words[0]);
-        command
-            .args(&self.words[1..])
-            .stdout(Stdio::piped())
-            .stderr(Stdio::piped());
-        let path = std::env::temp_dir().join(format!("show-input-{}", std::process::id()));
-        if by == By::File {
-            File::create(&path)
-                .and_then(|mut f| f.write_all(input))
-                .expect("a temporary file");
-            command.stdin(File::open(&path).expect("a temporary file"));
-        } else {
-            command.stdin(Stdio::piped());
-        }
-        let mut child = command.spawn().expect("the program starts");
-        if let Some(mut pipe) = child.stdin.take() {
-            // the program may stop reading once it has too much, so a broken pipe is no fault
-            if by == By::Pieces {
-                let size = input.len() / 5 + 1;
-                for piece in input.chunks(size) {
-                    if pipe.write_all(piece).and_then(|_| pipe.flush()).is_err() {
-                        break;
-                    }
-                    std::thread::sleep(Duration::from_millis(2));
-                }
-            } else {
-                let _ = pipe.write_all(input);
-            }
-        }
-        let mut out = Vec::new();
-        let mut err = Vec::new();
-        child
-            .stdout
-            .take()
-            .unwrap()
-            .read_to_end(&mut out)
-            .expect("standard output");
-        child
-            .stderr
-            .take()
-            .unwrap()
-            .read_to_end(&mut err)
-            .expect("standard error");
-        let status = child.wait().expect("the program ends");
-        if by == By::File {
-            let _ = std::fs::remove_file(&path);
-        }
-        let expected = module::show(input);
-        self.report.cases += 1;
-        self.report.expect(out == expected.as_bytes(), || {
-            format!(
-                "input {}\n  {}\n--- expected\n{}--- got\n{}---",
-                hex(input),
-                first_difference(expected.as_bytes(), &out),
-                expected,
-                String::from_utf8_lossy(&out)
-            )
-        });
-        self.report.expect(err.is_empty() && status.success(), || {
-            format!(
-                "input {}\n  {}; standard error: {}",
-                hex(input),
-                status,
-                String::from_utf8_lossy(&err)
-            )
-        });
-    }
-
-    fn on(&mut self, input: &[u8]) {
-        self.try_on(input, By::Pipe);
-    }
-}
 
 /// The display full of letters, in the given mode.
 fn filled(mode: u8) -> Vec<u8> {
@@ -109,22 +18,8 @@ fn filled(mode: u8) -> Vec<u8> {
     s
 }
 
-fn define(code: u8, data: [u8; 5]) -> Vec<u8> {
-    let mut s = vec![0x1B, 0x43, code];
-    s.extend_from_slice(&data);
-    s
-}
-
 fn main() {
-    let words: Vec<String> = std::env::args().skip(1).collect();
-    if words.is_empty() {
-        eprintln!("usage: show PROGRAM..");
-        std::process::exit(2);
-    }
-    let mut s = Shows {
-        words,
-        report: Report::new(),
-    };
+    let mut s = Program::new("show", module::show);
     let mut rng = Rng::new(2);
 
     // nothing, the sample, each single byte
@@ -210,27 +105,9 @@ fn main() {
         }
     }
 
-    // user characters: on every code; 15 to 20 of them, each then written; redefinitions before the 17th
-    for code in 0..=255u8 {
-        let mut input = define(code, [code, 0x1B, 0x49, 0x0E, 0xFF]);
-        input.extend_from_slice(&[0x41, code, 0x42, 0x1B, 0x48, 0x26, code, code, code]);
-        s.on(&input);
-    }
-    for n in 15..=20usize {
-        for again in 0..n {
-            let mut input = Vec::new();
-            for i in 0..n {
-                if i == 16 {
-                    input.extend(define(again as u8, [9; 5]));
-                }
-                input.extend(define(i as u8, [i as u8; 5]));
-            }
-            for i in 0..n as u8 {
-                input.push(i);
-            }
-            input.extend_from_slice(&[0x08, 0x0A, 0x58]);
-            s.on(&input);
-        }
+    // user characters: on every code; 15 to 20 of them, each then written
+    for input in inputs::users_on_every_code().iter().chain(&inputs::many_users()) {
+        s.on(input);
     }
 
     // lengths at the limit
@@ -283,5 +160,5 @@ fn main() {
         );
     }
 
-    s.report.end("show", 2_000);
+    s.end(2_000);
 }

@@ -1,12 +1,10 @@
 -- How long a report may be.
-use Prim.Native.Nat.{ℕ, _≤_, _+_, _*_}
+use Prim.Native.Nat.{ℕ, _≤_, _*_}
 use mathlib.Core.Path.{_≡_}
-use mathlib.Core.List.{List, _++_}
+use mathlib.Core.List.{List}
 use native.Mathlib.Omega.{arith}
 use lib.ListN.{length, take, drop, length-append, length-take, length-drop}
-use Rattle.condition.specs.declared.Condition.{Condition}
 use Rattle.interpreter.specs.declared.Ran.{Ran}
-use Rattle.lines.specs.Lines.{printOf}
 use Rattle.lines.proofs.Laws.{each-length, decimal-length, print-length}
 use Rattle.show.specs.Report.{codeText, hexLine, cellLines, placeLine, reportOf, shownOf}
 

@@ -1,6 +1,5 @@
 -- How long a text may be.
-use Prim.Native.Nat.{ℕ, _≤_, _+_, _*_, min}
-use mathlib.Core.List.{_++_}
+use Prim.Native.Nat.{ℕ, _≤_, _+_, min}
 use native.Mathlib.Omega.{arith}
 use lib.ListN.{length, length-append}
 use Rattle.condition.specs.declared.Condition.{Condition}
@@ -8,7 +7,7 @@ use Rattle.condition.specs.declared.Shows.{Shows}
 use Rattle.condition.specs.declared.Shows.the-variants.{Blank, User, Euro, BuiltIn}
 use Rattle.condition.specs.Answers.{viewAnswer, dotAnswer, underlineAnswer, litAnswer}
 use Rattle.interpreter.specs.declared.Ran.{Ran}
-use Rattle.lines.specs.Lines.{each, printOf}
+use Rattle.lines.specs.Lines.{each}
 use Rattle.lines.proofs.Laws.{each-length, decimal-length, print-length}
 use Rattle.tell.specs.Report.{showsText, cellLine, dotText, userLine, placeLine, reportOf, toldOf}
 

@@ -2,7 +2,6 @@
 use Prim.Native.Nat.{ℕ, _+_, _*_, min}
 use mathlib.Core.List.{List, [], _∷_, _++_}
 use lib.ListN.{getD}
-use Rattle.users.specs.declared.Users.{Users}
 use Rattle.condition.specs.declared.Condition.{Condition}
 use Rattle.condition.specs.declared.Shows.{Shows}
 use Rattle.condition.specs.declared.Shows.the-variants.{Blank, User, Euro, BuiltIn}

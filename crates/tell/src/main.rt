@@ -1,7 +1,6 @@
 // Runs standard input from power-up font 0 with a zero tally that is lent, and tells what each cell shows, what each user character
 // looks like, and the tally.
 ghost use mathlib.Core.Path.{_≡_};
-ghost use mathlib.Core.List.{List};
 ghost use Prim.Native.Nat.{_≤_, min};
 ghost use lib.ListN.{length, take};
 ghost use Rattle.interpreter.specs.Run.{RunPromise};
@@ -58,6 +57,7 @@ fn add_cells(out: &mut [u8], k: usize, c: Condition) -> usize
     at
 }
 
+// The dots P1 to P35, 1 where it is lit, else 0.
 fn add_dots(out: &mut [u8], k: usize, c: Condition, code: u8) -> usize
     ensures { λ r. ⌜ Added (now (out .entry)) k (each (dotText c code) 35) (now (out .exit)) r ⌝ }
 {
@@ -71,6 +71,7 @@ fn add_dots(out: &mut [u8], k: usize, c: Condition, code: u8) -> usize
     at
 }
 
+// A user character, asked for by its code.
 fn add_user(out: &mut [u8], k: usize, c: Condition, code: u8) -> usize
     ensures { λ r. ⌜ Added (now (out .entry)) k (userLine c code) (now (out .exit)) r ⌝ }
 {
