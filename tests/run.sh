@@ -97,13 +97,13 @@ speed)
     for what in printable mixed; do
         own=$(each own "$what")
         sign=$(each sign "$what")
-        echo "speed: $what: independent Rust $(decimal "$own"), sign_run $(decimal "$sign"), ratio $(decimal $((sign * 100 / own)))"
+        echo "speed: $what: independent Rust $(decimal "$own"), sign_run $(decimal "$sign"), ratio $(decimal $(((sign * 100 + own / 2) / own)))"
     done
     ;;
 costs)
     c_program plan_cost tests/plan_cost.c
     choose_counter "$out/plan_cost" 0 0
-    for kind in 0 1 2 3; do
+    for kind in 0 1 2 3 4 5; do
         ten=$(count "$out/plan_cost" "$kind" 10)
         none=$(count "$out/plan_cost" "$kind" 0)
         echo "costs: a plan of $($RUN "$out/plan_cost" "$kind" 1) bytes (kind $kind) takes $(((ten - none) / 10)) instructions"

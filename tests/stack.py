@@ -2,13 +2,16 @@
 """Prints the stack that each entry point of libsign.a needs, from the compiled code (objdump's text on standard input).
 
 For each function: what it pushes and subtracts from rsp, the return address, and the deepest of the functions that it calls.
-A call to a function of the C library (memcpy, memset) counts its return address only.
+A call to a function of the C library (memcpy, memset) counts its return address only. A call that names no function ends it: no bound.
 """
 import re
 import sys
 
-frames, calls, name = {}, {}, None
+frames, calls, name, calling = {}, {}, None, None
 for line in sys.stdin:
+    if calling and "R_X86_64_" not in line:
+        sys.exit(f"{name}: a call that names no function: {calling.strip()}")
+    calling = line if re.search(r"\tcall", line) else None
     head = re.match(r"[0-9a-f]+ <([^>]+)>:", line)
     if head:
         name = head.group(1)

@@ -1,5 +1,5 @@
 //! What an input byte costs: the independent interpreter beside sign_run, each from power-up on 32,768
-//! bytes. The script speed.sh counts the instructions of this program. Linked with libsign.a.
+//! bytes. `tests/run.sh speed` counts the instructions of this program. Linked with libsign.a.
 //! Usage: speed own|sign printable|mixed REPEATS, or: speed check (both leave the same).
 
 mod inputs;
