@@ -14,8 +14,10 @@ use Rattle.condition.specs.Steps.{wrong}
 use Rattle.moves.specs.Moves.{left, next, down, move, near1, near2, dist}
 use Rattle.moves.specs.Ways.{leaves, firstByte, pathOf, path}
 use Rattle.planner.specs.Plan.{flagged, planOf, plan}
-use Rattle.planner.specs.Answer.{onMove, lacks, someLacks, refusalBy, planRefusal}
+use Rattle.planner.specs.Fonts.{wrongFor, switch, fontsPlanOf, fontsPlan}
+use Rattle.planner.specs.Answer.{onMove, onSwitch, lacks, someLacks, refusalBy, planRefusal, fontsRefusal}
 use Rattle.bench_sheet.specs.Sheet.{AllHold, dotsUpTo, sheet}
+use Rattle.bench_sheet.specs.Fonts.{fontsSheet}
 
 pub bench : AllHold sheet
 unfolding powerUp runOf stepAt isChar isUser foundIn limitOf writeOf pushOf rightOf scrollOf scrolled shifted lineStart controlOf leftOf downOf returnOf clearOf escapeOf positionOf dataOf defineOf definedAt putOf busyOf figureAt writeBusy controlBusy escapeBusy rightScrolls downScrolls lineShifts showsOf showsCode dotsUpTo dotAnswer litAnswer lookupOf wellFormed numbersGood scrollGood allUpTo usersGood absent pendingGood escapeGood characterAt dotOf litOf litUpTo wrong left next down move near1 near2 dist leaves firstByte pathOf path flagged planOf plan onMove lacks someLacks refusalBy planRefusal
@@ -50,3 +52,8 @@ bench = (
     ),
   ),
 )
+
+-- and the cases for two fonts
+pub fonts-bench : AllHold fontsSheet
+unfolding powerUp runOf stepAt isChar isUser foundIn limitOf controlOf escapeOf positionOf wellFormed numbersGood scrollGood allUpTo usersGood absent pendingGood escapeGood left next down move near1 near2 dist lineStart leaves firstByte pathOf path flagged wrongFor switch fontsPlanOf fontsPlan onMove onSwitch lacks someLacks refusalBy fontsRefusal
+fonts-bench = ((refl, refl), ((refl, refl), (refl, tt)))
