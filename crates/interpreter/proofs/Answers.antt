@@ -17,11 +17,9 @@ use Rattle.condition.proofs.Good.{Sized}
 use Rattle.condition.proofs.Places.{both}
 use Rattle.condition.proofs.Kept.{run-kept}
 use Rattle.condition.proofs.Pieces.{run-append, busy-append, flickerless-append, busy-most, flickerless-most}
-use Rattle.block.specs.Layout.{packedOf, conditionIn}
-use Rattle.block.proofs.PackedBack.{packed-back}
 use Rattle.interpreter.specs.declared.Tally.{Tally}
 use Rattle.interpreter.specs.declared.Ran.{Ran}
-use Rattle.interpreter.specs.InPlace.{Carried}
+use Rattle.inplace.specs.InPlace.{Carried}
 use Rattle.interpreter.specs.Run.{limit, withinLimit, tallied, runRefusal, refusedOf, acceptedOf, runAnswer, inTurn, RunPromise, LentPromise}
 
 -- each number of a tally within its limit
@@ -101,13 +99,6 @@ pub ran : (t : Tally) (c k : Condition) (bs : List ℕ) (busy flickerless : ℕ)
     })
     (acceptedOf c t bs)
 ran t c k bs busy flickerless g = rw (g .leaves, tallies t c k bs busy flickerless g)
-
--- a run on the packed condition
-pub carries : (c : Condition) (p after : List ℕ) (k : Condition) (bs : List ℕ) (busy flickerless : ℕ) → Sized c → p ≡ packedOf c
-    → k ≡ conditionIn after → Carried (conditionIn p) bs (conditionIn after) busy flickerless → Carried c bs k busy flickerless
-carries c p after k bs busy flickerless s e f g =
-    let h : conditionIn p ≡ c = ap conditionIn e ∙ packed-back c s in
-    rw f (rw h at g)
 
 -- Any two answers that a promise allows are equal --------------------------------------------------------------------------
 

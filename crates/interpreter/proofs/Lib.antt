@@ -1,5 +1,1 @@
-pub mod Tests
-pub mod InPlace
-pub mod Ways
-pub mod Running
 pub mod Answers

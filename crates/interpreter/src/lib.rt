@@ -1,21 +1,8 @@
-// A run: what bytes do to a condition and to the tally. It works in place on the condition packed in 200 bytes.
+// A run: what bytes do to a condition and to the tally.
 ghost use mathlib.Core.Path.{_≡_};
-ghost use mathlib.Core.Bool.{true};
-ghost use Prim.Native.Nat.{_≤_, _+_};
-ghost use lib.ListN.{length};
-ghost use Rattle.condition.specs.Condition.{wellFormed};
-ghost use Rattle.interpreter.specs.InPlace.{Carried};
 ghost use Rattle.interpreter.specs.Run.{withinLimit, refusedOf, RunPromise, LentPromise};
 use condition::Condition;
-use turn::run_in;
-
-mod busy;
-mod cells;
-mod chars;
-mod commands;
-mod fields;
-mod half;
-mod turn;
+use inplace::MOST_BYTES;
 
 // What a run adds to: bytes, busy microseconds, and bytes received while flickerless was already on.
 pub struct Tally {
@@ -36,9 +23,6 @@ pub struct Ran {
     pub tally: Tally,
 }
 
-// The most bytes in a run.
-pub const MOST_BYTES: usize = 32768;
-
 fn within_limit(t: Tally) -> bool
     ensures { λ r. ⌜ r ≡ withinLimit t ⌝ }
 {
@@ -55,27 +39,6 @@ fn refused(n: u8, c: Condition, t: Tally) -> Ran
     }
 }
 
-// The condition after bytes, their busy time, and how many came while flickerless was on.
-struct After {
-    condition: Condition,
-    busy: u32,
-    flickerless: u32,
-}
-
-fn carry(c: Condition, bytes: &[u8]) -> After
-    requires { ⌜ (wellFormed c ≡ true) × (length (now bytes) ≤ 32768) ⌝ }
-    ensures { λ r. ⌜ Carried c (now (bytes .entry)) (r .condition) (r .busy) (r .flickerless) ⌝ }
-{
-    let mut s = block::packed(c);
-    let spent = run_in(&mut s, bytes);
-    let after = block::unpacked(&s);
-    After {
-        condition: after,
-        busy: spent.busy,
-        flickerless: spent.flickerless,
-    }
-}
-
 // The bytes are carried out in turn, and the tally is brought up to date.
 pub fn run(c: Condition, t: Tally, bytes: &[u8]) -> Ran
     ensures { λ r. ⌜ RunPromise c t (now (bytes .entry)) r ⌝ }
@@ -89,7 +52,7 @@ pub fn run(c: Condition, t: Tally, bytes: &[u8]) -> Ran
     if MOST_BYTES < bytes.len() {
         return refused(4, c, t);
     }
-    let after = carry(c, bytes);
+    let after = inplace::carry(c, bytes);
     let condition = after.condition;
     let next = Tally {
         bytes: t.bytes + bytes.len() as u32,

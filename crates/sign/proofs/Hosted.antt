@@ -28,7 +28,7 @@ use Rattle.interpreter.specs.declared.Tally.{Tally}
 use Rattle.interpreter.specs.declared.Ran.{Ran}
 use Rattle.condition.specs.Bytes.{runOf}
 use Rattle.interpreter.specs.Run.{RunPromise, refusedOf, tallied, runRefusal, runAnswer}
-use Rattle.interpreter.proofs.Running.{sized-in}
+use Rattle.inplace.proofs.Running.{sized-in}
 use Rattle.planner.specs.declared.Planned.{Planned}
 use Rattle.planner.specs.Answer.{bytesBy, Promise, Plans, PlansFonts}
 use Rattle.sign.specs.Host.{tallyAt, tallyBytes, ranOf, hostRunRefusal, blockAfter, tallyAfter, HostRun, hostRefusalBy, hostAnswer, HostPromise, hostPowerUpRefusal, hostPowerUpOut, HostPowerUp}

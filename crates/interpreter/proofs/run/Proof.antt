@@ -3,6 +3,8 @@ use native.Mathlib.Omega.{arith}
 use borrow.Author.Tests.{not-true, not-false}
 use Rattle.condition.proofs.Good.{Sized}
 use Rattle.interpreter.proofs.Answers.{within, not-formed, above-limit, too-long, passes-limit, accepted, adds, tallies, ran}
+use Rattle.inplace.specs.InPlace.{Carried}
+use Rattle.inplace.proofs.Carrying.{taken}
 use Rattle.interpreter.specs.Run.{withinLimit}
 use borrow.Author.Needs.{needs}
 use Rattle.interpreter.proofs.run.Statement.{statement}
@@ -38,10 +40,14 @@ returns-3 c =
     too-long _ _ _ _ (sym (t .before .before .before .well-formed .ensures) ∙ not-false _ (t .before .before .if1 .left))
     (sym (t .before .within-limit .ensures) ∙ not-false _ (t .if2 .left)) (c .before .if3 .taken) (c .refused3 .ensures)
 
+-- what the bytes did, where nothing is refused before them
+did : (c : tie.After-carry) → Carried (c .before .before .before .before .before .before .before .args .c) (c .before .before .before .before .before .before .before .args .bytes .now) (c .carry .result .condition) (c .carry .result .busy) (c .carry .result .flickerless)
+did c =
+    let t = c .before .before in
+    taken _ _ _ (sym (t .before .before .before .well-formed .ensures) ∙ not-false _ (t .before .before .if1 .left)) (c .before .if3 .left) (c .carry .ensures)
+
 carry-requires : tie.Need-carry-requires
-carry-requires c κs =
-    let t = c .before in
-    (sym (t .before .before .before .well-formed .ensures) ∙ not-false _ (t .before .before .if1 .left), c .if3 .left)
+carry-requires c κs = search needs
 
 cast-t10 : tie.Need-cast-t10
 cast-t10 c = search needs
@@ -55,13 +61,13 @@ add-t12 : tie.Need-add-t12
 add-t12 c =
     let t = c .before .before .before .before .before .before in
     let k = c .before .before .before .before in
-    omega (arith, within _ (sym (t .before .within-limit .ensures) ∙ not-false _ (t .if2 .left)) .busy, adds _ _ _ _ _ (k .carry .ensures) (k .before .if3 .left) .0)
+    omega (arith, within _ (sym (t .before .within-limit .ensures) ∙ not-false _ (t .if2 .left)) .busy, adds _ _ _ _ _ (did k) (k .before .if3 .left) .0)
 
 add-t13 : tie.Need-add-t13
 add-t13 c =
     let t = c .before .before .before .before .before .before .before .before in
     let k = c .before .before .before .before .before .before in
-    omega (arith, within _ (sym (t .before .within-limit .ensures) ∙ not-false _ (t .if2 .left)) .flickerless, adds _ _ _ _ _ (k .carry .ensures) (k .before .if3 .left) .1)
+    omega (arith, within _ (sym (t .before .within-limit .ensures) ∙ not-false _ (t .if2 .left)) .flickerless, adds _ _ _ _ _ (did k) (k .before .if3 .left) .1)
 
 within-limit-requires-2 : tie.Need-within-limit-requires-2
 within-limit-requires-2 c κs = search needs
@@ -75,7 +81,7 @@ returns-4 c =
     let t = k .before .before in
     passes-limit _ _ _ _ (sym (t .before .before .before .well-formed .ensures) ∙ not-false _ (t .before .before .if1 .left))
     (sym (t .before .within-limit .ensures) ∙ not-false _ (t .if2 .left)) (k .before .if3 .left)
-    (sym (ap withinLimit (tallies _ _ _ _ _ _ (k .carry .ensures))) ∙ sym (c .before .before .within-limit2 .ensures) ∙ not-true _ (c .before .if4 .taken))
+    (sym (ap withinLimit (tallies _ _ _ _ _ _ (did k))) ∙ sym (c .before .before .within-limit2 .ensures) ∙ not-true _ (c .before .if4 .taken))
     (c .refused4 .ensures)
 
 returns-5 : tie.Need-returns-5
@@ -85,8 +91,8 @@ returns-5 c =
     let a = t .before .before .before .before in
     accepted _ _ _ _ (sym (t .before .before .before .well-formed .ensures) ∙ not-false _ (t .before .before .if1 .left))
     (sym (t .before .within-limit .ensures) ∙ not-false _ (t .if2 .left)) (k .before .if3 .left)
-    (sym (ap withinLimit (tallies _ _ _ _ _ _ (k .carry .ensures))) ∙ sym (c .before .within-limit2 .ensures) ∙ not-false _ (c .if4 .left))
-    (sized (a .before)) (λ i. a .shared-slice-known .given i .fits) (ran _ _ _ _ _ _ (k .carry .ensures))
+    (sym (ap withinLimit (tallies _ _ _ _ _ _ (did k))) ∙ sym (c .before .within-limit2 .ensures) ∙ not-false _ (c .if4 .left))
+    (sized (a .before)) (λ i. a .shared-slice-known .given i .fits) (ran _ _ _ _ _ _ (did k))
 
 pub run-spec : {M : Type 1} → statement M
 run-spec =

@@ -1,0 +1,307 @@
+-- What a store to a byte, or to a part, makes of the condition that stands there.
+use Prim.Native.Nat.{ℕ, zero, suc, _+_, _≤_, _<_}
+use mathlib.Core.Path.{_≡_, refl, ap, sym, _∙_}
+use mathlib.Core.List.{List, [], _∷_, _++_, append-assoc, append-nil}
+use native.Mathlib.Omega.{arith}
+use lib.Dec.{eqb}
+use borrow.Author.Tests.{eq-eqb}
+use lib.ListN.{length, getD, take, drop, set, replicate, length-drop, take-append-drop}
+use lib.Seq.{take-at, drop-at, drop-drop, take-add, length-take-le, take-all, drop-length}
+use Rattle.row.specs.Row.{onPicture, laid}
+use Rattle.row.proofs.Laws.{pictured}
+use Rattle.users.specs.Users.{usersIn, defineIn}
+use Rattle.condition.specs.declared.Condition.{Condition}
+use Rattle.condition.specs.Condition.{powerUp}
+use Rattle.condition.specs.Set.{withCursor, withScrolling, withShown, withFont, withEuro, withLuminance, withSpeed, withFlickerless, withUsers, withPending, withCells, goTo}
+use Rattle.condition.specs.Bytes.{modeOf, internationalOf}
+use Rattle.block.specs.Layout.{conditionIn, pendingOf}
+use Rattle.inplace.specs.InPlace.{blankOf, heldIn, releasedIn, resetIn, withUserBytes, definedIn}
+
+-- a property of every list of n elements or more, by its first n elements
+abbrev Each : ℕ → (List ℕ → Type 0) → Type 0
+Each zero P = (r : List ℕ) → P r
+Each (suc n) P = (a : ℕ) → Each n (λ (l : List ℕ). P (a ∷ l))
+
+each : (n : ℕ) (P : List ℕ → Type 0) → Each n P → (s : List ℕ) → n ≤ length s → P s
+each zero P f s h = f s
+each (suc n) P f [] h = let z : ⊥ = omega arith in absurd z
+each (suc n) P f (a ∷ s) h = each n (λ (l : List ℕ). P (a ∷ l)) (f a) s (omega arith)
+
+-- stores f, among the first 24 bytes, make g of the condition
+abbrev Makes : (List ℕ → List ℕ) → (Condition → Condition) → List ℕ → Type 0
+Makes f g l = conditionIn (f l) ≡ g (conditionIn l)
+
+stored : (f : List ℕ → List ℕ) (g : Condition → Condition) → Each 24 (Makes f g) → (s : List ℕ) → 200 ≤ length s → Makes f g s
+stored f g e s h = each 24 (Makes f g) e s (omega arith)
+
+-- Stores to a byte ---------------------------------------------------------------------------------------------------------
+
+pub cursor-in : (s : List ℕ) (x : ℕ) → 200 ≤ length s → conditionIn (set s 3 x) ≡ withCursor (conditionIn s) x
+unfolding conditionIn
+cursor-in s x h = stored (λ (l : List ℕ). set l 3 x) (λ (k : Condition). withCursor k x) (search) s h
+
+pub go-in : (s : List ℕ) (x : ℕ) → 200 ≤ length s → conditionIn (set (set s 3 x) 5 0) ≡ goTo (conditionIn s) x
+unfolding conditionIn
+go-in s x h = stored (λ (l : List ℕ). set (set l 3 x) 5 0) (λ (k : Condition). goTo k x) (search) s h
+
+pub scrolling-in : (s : List ℕ) (v : ℕ) → 200 ≤ length s → conditionIn (set s 5 v) ≡ withScrolling (conditionIn s) (eqb v 1)
+unfolding conditionIn
+scrolling-in s v h = stored (λ (l : List ℕ). set l 5 v) (λ (k : Condition). withScrolling k (eqb v 1)) (search) s h
+
+pub mode-in : (s : List ℕ) (m : ℕ) → 200 ≤ length s → conditionIn (set (set s 4 m) 5 0) ≡ modeOf (conditionIn s) m
+unfolding conditionIn
+mode-in s m h = stored (λ (l : List ℕ). set (set l 4 m) 5 0) (λ (k : Condition). modeOf k m) (search) s h
+
+pub shown-in : (s : List ℕ) (v : ℕ) → 200 ≤ length s → conditionIn (set s 6 v) ≡ withShown (conditionIn s) (eqb v 1)
+unfolding conditionIn
+shown-in s v h = stored (λ (l : List ℕ). set l 6 v) (λ (k : Condition). withShown k (eqb v 1)) (search) s h
+
+pub international-in : (s : List ℕ) → 200 ≤ length s → conditionIn (set (set s 7 0) 9 0) ≡ internationalOf (conditionIn s)
+unfolding conditionIn
+international-in s h = stored (λ (l : List ℕ). set (set l 7 0) 9 0) (λ (k : Condition). internationalOf k) (search) s h
+
+pub font-in : (s : List ℕ) (f : ℕ) → 200 ≤ length s → conditionIn (set s 7 f) ≡ withFont (conditionIn s) f
+unfolding conditionIn
+font-in s f h = stored (λ (l : List ℕ). set l 7 f) (λ (k : Condition). withFont k f) (search) s h
+
+pub euro-in : (s : List ℕ) (v : ℕ) → 200 ≤ length s → conditionIn (set s 9 v) ≡ withEuro (conditionIn s) (eqb v 1)
+unfolding conditionIn
+euro-in s v h = stored (λ (l : List ℕ). set l 9 v) (λ (k : Condition). withEuro k (eqb v 1)) (search) s h
+
+pub luminance-in : (s : List ℕ) (v : ℕ) → 200 ≤ length s → conditionIn (set s 10 v) ≡ withLuminance (conditionIn s) v
+unfolding conditionIn
+luminance-in s v h = stored (λ (l : List ℕ). set l 10 v) (λ (k : Condition). withLuminance k v) (search) s h
+
+pub speed-in : (s : List ℕ) (v : ℕ) → 200 ≤ length s → conditionIn (set s 11 v) ≡ withSpeed (conditionIn s) v
+unfolding conditionIn
+speed-in s v h = stored (λ (l : List ℕ). set l 11 v) (λ (k : Condition). withSpeed k v) (search) s h
+
+pub flickerless-in : (s : List ℕ) (v : ℕ) → 200 ≤ length s → conditionIn (set s 12 v) ≡ withFlickerless (conditionIn s) (eqb v 1)
+unfolding conditionIn
+flickerless-in s v h = stored (λ (l : List ℕ). set l 12 v) (λ (k : Condition). withFlickerless k (eqb v 1)) (search) s h
+
+pub pending-in : (s : List ℕ) (p a n : ℕ) → 200 ≤ length s → conditionIn (set (set (set s 13 p) 14 a) 15 n) ≡ withPending (conditionIn s) (pendingOf p a n)
+unfolding conditionIn
+pending-in s p a n h = stored (λ (l : List ℕ). set (set (set l 13 p) 14 a) 15 n) (λ (k : Condition). withPending k (pendingOf p a n)) (search) s h
+
+-- how many user characters there are
+abbrev withCount : Condition → ℕ → Condition
+withCount c n = withUsers c (usersIn (c .users .bytes) n)
+
+pub count-in : (s : List ℕ) (n : ℕ) → 200 ≤ length s → conditionIn (set s 20 n) ≡ withCount (conditionIn s) n
+unfolding conditionIn
+count-in s n h = stored (λ (l : List ℕ). set l 20 n) (λ (k : Condition). withCount k n) (search) s h
+
+pub release-in : (s : List ℕ) → 200 ≤ length s → conditionIn (set (set (set (set s 16 0) 17 0) 18 0) 19 0) ≡ releasedIn (conditionIn s)
+unfolding conditionIn
+release-in s h = stored (λ (l : List ℕ). set (set (set (set l 16 0) 17 0) 18 0) 19 0) (λ (k : Condition). releasedIn k) (search) s h
+
+pub ruleset stores = (cursor-in, go-in, scrolling-in, mode-in, shown-in, international-in, font-in, euro-in, luminance-in, speed-in, flickerless-in, pending-in, count-in, release-in)
+
+-- a byte among the four held
+pub hold-in : (s : List ℕ) (n d : ℕ) → n < 4 → 200 ≤ length s → conditionIn (set s (16 + n) d) ≡ heldIn (conditionIn s) n d
+unfolding conditionIn
+hold-in s n d l h = stored (λ (l : List ℕ). set l (16 + n) d) (λ (k : Condition). heldIn k n d) (at n l) s h
+  where
+    at : (n : ℕ) → n < 4 → Each 24 (Makes (λ (l : List ℕ). set l (16 + n) d) (λ (k : Condition). heldIn k n d))
+    at zero l = search
+    at (suc zero) l = search
+    at (suc (suc zero)) l = search
+    at (suc (suc (suc zero))) l = search
+    at (suc (suc (suc (suc n)))) l = let z : ⊥ = omega arith in absurd z
+
+-- the bytes held, one by one
+pub held-in : (s : List ℕ) → 200 ≤ length s → conditionIn s .held ≡ getD s 16 0 ∷ getD s 17 0 ∷ getD s 18 0 ∷ getD s 19 0 ∷ []
+unfolding conditionIn
+held-in s h =
+    each 24 (λ (s : List ℕ). conditionIn s .held ≡ getD s 16 0 ∷ getD s 17 0 ∷ getD s 18 0 ∷ getD s 19 0 ∷ [])
+    (search) s (omega arith)
+
+-- Fields, read at their bytes ------------------------------------------------------------------------------------------------
+
+pub cursor-at : (s : List ℕ) → conditionIn s .cursor ≡ getD s 3 0
+unfolding conditionIn
+cursor-at s = refl
+
+pub cursor-by : (s : List ℕ) (k : Condition) → conditionIn s ≡ k → getD s 3 0 ≡ k .cursor
+unfolding conditionIn
+cursor-by s k e = ap (λ (c : Condition). c .cursor) e
+
+pub mode-at : (s : List ℕ) → conditionIn s .mode ≡ getD s 4 0
+unfolding conditionIn
+mode-at s = refl
+
+pub scrolling-at : (s : List ℕ) → conditionIn s .scrolling ≡ eqb (getD s 5 0) 1
+unfolding conditionIn
+scrolling-at s = refl
+
+pub font-at : (s : List ℕ) → conditionIn s .font ≡ getD s 7 0
+unfolding conditionIn
+font-at s = refl
+
+pub link-at : (s : List ℕ) → conditionIn s .link ≡ getD s 8 0
+unfolding conditionIn
+link-at s = refl
+
+pub flickerless-at : (s : List ℕ) → conditionIn s .flickerless ≡ eqb (getD s 12 0) 1
+unfolding conditionIn
+flickerless-at s = refl
+
+pub pending-at : (s : List ℕ) → conditionIn s .pending ≡ pendingOf (getD s 13 0) (getD s 14 0) (getD s 15 0)
+unfolding conditionIn
+pending-at s = refl
+
+pub users-at : (s : List ℕ) → conditionIn s .users ≡ usersIn (take 96 (drop 104 s)) (getD s 20 0)
+unfolding conditionIn
+users-at s = refl
+
+-- Stores to a part ---------------------------------------------------------------------------------------------------------
+
+-- a part of n bytes from a on, replaced by x
+abbrev pub spliced : ℕ → ℕ → List ℕ → List ℕ → List ℕ
+spliced a n s x = take a s ++ (x ++ drop n (drop a s))
+
+-- a property of every list of n elements and a block's parts, by these
+EachPart : ℕ → (List ℕ → Type 0) → Type 0
+EachPart zero P = (p q w z : List ℕ) → length p ≡ 40 → length q ≡ 40 → length w ≡ 96 → P (p ++ (q ++ (w ++ z)))
+EachPart (suc n) P = (a : ℕ) → EachPart n (λ (l : List ℕ). P (a ∷ l))
+
+each-part : (n : ℕ) (P : List ℕ → Type 0) → EachPart n P → (s : List ℕ) → n + 176 ≤ length s → P s
+unfolding EachPart
+each-part zero P f r h =
+    let a : length (take 40 r) ≡ 40 = length-take-le 40 r (omega arith) in
+    let b : length (take 40 (drop 40 r)) ≡ 40 = length-take-le 40 (drop 40 r) (simp length-drop (omega arith)) in
+    let c : length (take 96 (drop 40 (drop 40 r))) ≡ 96 = length-take-le 96 (drop 40 (drop 40 r)) (simp length-drop (omega arith)) in
+    let e : P (take 40 r ++ (take 40 (drop 40 r) ++ (take 96 (drop 40 (drop 40 r)) ++ drop 96 (drop 40 (drop 40 r))))) =
+    f (take 40 r) (take 40 (drop 40 r)) (take 96 (drop 40 (drop 40 r))) (drop 96 (drop 40 (drop 40 r))) a b c in
+    rw (take-append-drop, take-append-drop, take-append-drop) at e
+each-part (suc n) P f [] h = let z : ⊥ = omega arith in absurd z
+each-part (suc n) P f (a ∷ s) h = each-part n (λ (l : List ℕ). P (a ∷ l)) (f a) s (omega arith)
+
+module _ (p q w z : List ℕ) (hp : length p ≡ 40) (hq : length q ≡ 40) (hw : length w ≡ 96) where
+  in-codes : take 40 (p ++ (q ++ (w ++ z))) ≡ p
+  in-codes = take-at p (q ++ (w ++ z)) 40 hp
+
+  past-codes : drop 40 (p ++ (q ++ (w ++ z))) ≡ q ++ (w ++ z)
+  past-codes = drop-at p (q ++ (w ++ z)) 40 hp
+
+  past-fonts : drop 80 (p ++ (q ++ (w ++ z))) ≡ w ++ z
+  past-fonts = sym (drop-drop 40 40 (p ++ (q ++ (w ++ z)))) ∙ ap (drop 40) past-codes ∙ drop-at q (w ++ z) 40 hq
+
+  up-to-fonts : take 80 (p ++ (q ++ (w ++ z))) ≡ p ++ q
+  up-to-fonts = take-add 40 40 (p ++ (q ++ (w ++ z))) ∙ rw (in-codes, past-codes) (ap (λ (l : List ℕ). p ++ l) (take-at q (w ++ z) 40 hq))
+
+  in-fonts : take 40 (drop 40 (p ++ (q ++ (w ++ z)))) ≡ q
+  in-fonts = rw past-codes (take-at q (w ++ z) 40 hq)
+
+  in-users : take 96 (drop 80 (p ++ (q ++ (w ++ z)))) ≡ w
+  in-users = rw past-fonts (take-at w z 96 hw)
+
+-- the cells, codes and fonts, replaced
+cells-in : (s x y : List ℕ) → 200 ≤ length s → length x ≡ 40 → length y ≡ 40
+    → conditionIn (spliced 64 40 (spliced 24 40 s x) y) ≡ withCells (conditionIn s) x y
+unfolding conditionIn EachPart
+cells-in s x y h hx hy =
+    each-part 24 (λ (s : List ℕ). conditionIn (spliced 64 40 (spliced 24 40 s x) y) ≡ withCells (conditionIn s) x y)
+    (λ a0 a1 a2 a3 a4 a5 a6 a7 a8 a9 a10 a11 a12 a13 a14 a15 a16 a17 a18 a19 a20 a21 a22 a23 p q w z hp hq hw. rw (
+      past-codes p q w z hp hq hw,
+      in-codes x q w z hx hq hw,
+      past-codes x q w z hx hq hw,
+      drop-at q (w ++ z) 40 hq,
+      in-codes x y w z hx hy hw,
+      in-fonts x y w z hx hy hw,
+      in-users x y w z hx hy hw,
+      in-users p q w z hp hq hw,
+    ))
+    s (omega arith)
+
+fonts-kept : (s x : List ℕ) → 200 ≤ length s → length x ≡ 40 → take 40 (drop 64 (spliced 24 40 s x)) ≡ take 40 (drop 64 s)
+unfolding EachPart
+fonts-kept s x h hx =
+    each-part 24 (λ (s : List ℕ). take 40 (drop 64 (spliced 24 40 s x)) ≡ take 40 (drop 64 s))
+    (λ a0 a1 a2 a3 a4 a5 a6 a7 a8 a9 a10 a11 a12 a13 a14 a15 a16 a17 a18 a19 a20 a21 a22 a23 p q w z hp hq hw. rw (past-codes p q w z hp hq hw, in-fonts x q w z hx hq hw) (sym (take-at q (w ++ z) 40 hq)))
+    s (omega arith)
+
+users-in : (s x : List ℕ) → 200 ≤ length s → length x ≡ 96 → conditionIn (spliced 104 96 s x) ≡ withUserBytes (conditionIn s) x
+unfolding conditionIn EachPart
+users-in s x h hx =
+    each-part 24 (λ (s : List ℕ). conditionIn (spliced 104 96 s x) ≡ withUserBytes (conditionIn s) x)
+    (λ a0 a1 a2 a3 a4 a5 a6 a7 a8 a9 a10 a11 a12 a13 a14 a15 a16 a17 a18 a19 a20 a21 a22 a23 p q w z hp hq hw. rw (
+      up-to-fonts p q w z hp hq hw,
+      past-fonts p q w z hp hq hw,
+      drop-at w z 96 hw,
+      append-assoc p q (x ++ z),
+      in-codes p q x z hp hq hx,
+      in-fonts p q x z hp hq hx,
+      in-users p q x z hp hq hx,
+      in-codes p q w z hp hq hw,
+      in-fonts p q w z hp hq hw,
+    ))
+    s (omega arith)
+
+-- a part's length
+part-40 : (a : ℕ) (s : List ℕ) → a + 40 ≤ length s → length (take 40 (drop a s)) ≡ 40
+part-40 a s h = length-take-le 40 (drop a s) (simp length-drop (omega arith))
+
+-- codes and fonts, each changed by its own rule
+pub cells-by : (f g : List ℕ → List ℕ) (s x y : List ℕ) → 200 ≤ length s → length x ≡ 40 → length y ≡ 40
+    → x ≡ f (take 40 (drop 24 s)) → y ≡ g (take 40 (drop 64 (spliced 24 40 s x)))
+    → conditionIn (spliced 64 40 (spliced 24 40 s x) y) ≡ withCells (conditionIn s) (f (conditionIn s .codes)) (g (conditionIn s .fonts))
+unfolding conditionIn
+cells-by f g s x y h hx hy p q =
+    let k : y ≡ g (take 40 (drop 64 s)) = q ∙ ap g (fonts-kept s x h hx) in
+    cells-in s x y h hx hy ∙ rw (p, k)
+
+-- the same by rules for pictures
+pub pictures-by : (f g : List ℕ → List ℕ) (s x y : List ℕ) → 200 ≤ length s → length x ≡ 40 → length y ≡ 40
+    → x ≡ onPicture f (take 40 (drop 24 s)) → y ≡ onPicture g (take 40 (drop 64 (spliced 24 40 s x)))
+    → conditionIn (spliced 64 40 (spliced 24 40 s x) y) ≡ withCells (conditionIn s) (f (conditionIn s .codes)) (g (conditionIn s .fonts))
+pictures-by f g s x y h hx hy p q =
+    cells-by f g s x y h hx hy
+    (p ∙ pictured f _ (part-40 24 s (omega arith)))
+    (q ∙ rw (fonts-kept s x h hx) (pictured g _ (part-40 64 s (omega arith))))
+
+-- both cleared
+pub blank-by : (s x y : List ℕ) (f : ℕ) → 200 ≤ length s → length x ≡ 40 → length y ≡ 40
+    → x ≡ replicate (length (take 40 (drop 24 s))) 0x20 → y ≡ replicate (length (take 40 (drop 64 (spliced 24 40 s x)))) f
+    → conditionIn (spliced 64 40 (spliced 24 40 s x) y) ≡ blankOf (conditionIn s) f
+blank-by s x y f h hx hy p q =
+    cells-by (λ (l : List ℕ). replicate 40 0x20) (λ (l : List ℕ). replicate 40 f) s x y h hx hy
+    (p ∙ rw (part-40 24 s (omega arith)))
+    (q ∙ rw (fonts-kept s x h hx, part-40 64 s (omega arith)))
+
+-- the user characters' bytes, all 0
+pub forget-by : (s x : List ℕ) → 200 ≤ length s → length x ≡ 96 → x ≡ replicate (length (take 96 (drop 104 s))) 0
+    → conditionIn (spliced 104 96 s x) ≡ withUserBytes (conditionIn s) (replicate 96 0)
+forget-by s x h hx p =
+    let l : length (take 96 (drop 104 s)) ≡ 96 = length-take-le 96 (drop 104 s) (simp length-drop (omega arith)) in
+    users-in s x h hx ∙ rw (p, l)
+
+-- the user characters' bytes and count after a definition
+pub define-by : (s x : List ℕ) (n code last : ℕ) → 200 ≤ length s → length x ≡ 96 → 200 ≤ length (spliced 104 96 s x)
+    → usersIn x n ≡ defineIn (take 96 (drop 104 s)) (getD s 20 0) code (getD s 16 0 ∷ getD s 17 0 ∷ getD s 18 0 ∷ getD s 19 0 ∷ []) last
+    → conditionIn (set (spliced 104 96 s x) 20 n) ≡ definedIn (conditionIn s) code last
+unfolding defineIn
+define-by s x n code last h hx hl e =
+    let l : length (take 96 (drop 104 s)) ≡ 96 = length-take-le 96 (drop 104 s) (simp length-drop (omega arith)) in
+    count-in (spliced 104 96 s x) n hl ∙ ap (λ (k : Condition). withCount k n) (users-in s x h hx)
+    ∙ ap (withUsers (conditionIn s)) (e ∙ rw (eq-eqb _ 96 l, users-at s, held-in s h))
+
+-- as many bytes as there is room for
+laid-all : (s d : List ℕ) → length s ≡ length d → laid s d ≡ s
+unfolding laid
+laid-all s d h = rw (← h, take-all (length s) s (omega arith), h, drop-length d) (append-nil s)
+
+-- bytes 3 to 20 at power-up for a font
+abbrev freshHead : ℕ → List ℕ
+freshHead f = 0 ∷ 1 ∷ 0 ∷ 0 ∷ f ∷ f ∷ 0 ∷ 3 ∷ 0x14 ∷ 0 ∷ 0 ∷ 0 ∷ 0 ∷ 0 ∷ 0 ∷ 0 ∷ 0 ∷ 0 ∷ []
+
+reset-in : (s : List ℕ) (f : ℕ) → 200 ≤ length s → conditionIn (spliced 3 18 s (freshHead f)) ≡ resetIn (conditionIn s) f
+unfolding conditionIn powerUp
+reset-in s f h = stored (λ (l : List ℕ). spliced 3 18 l (freshHead f)) (λ (k : Condition). resetIn k f) (search) s h
+
+pub reset-by : (s x : List ℕ) (f : ℕ) → 200 ≤ length s → x ≡ laid (freshHead f) (take 18 (drop 3 s))
+    → conditionIn (spliced 3 18 s x) ≡ resetIn (conditionIn s) f
+reset-by s x f h e =
+    let l : length (take 18 (drop 3 s)) ≡ 18 = length-take-le 18 (drop 3 s) (simp length-drop (omega arith)) in
+    rw (e, laid-all (freshHead f) (take 18 (drop 3 s)) (sym l)) (reset-in s f h)

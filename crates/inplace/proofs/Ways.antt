@@ -1,0 +1,100 @@
+-- Each way through a command, from what its tests tell.
+use Prim.Native.Nat.{ℕ, _+_, _%_, _≤_, _<_}
+use mathlib.Core.Path.{_≡_, sym, _∙_}
+use mathlib.Core.List.{List}
+use mathlib.Core.Bool.{Bool, true, false}
+use lib.Dec.{ltb}
+use lib.ListN.{getD}
+use borrow.Author.Tests.{eq-eqb, ne-eqb, le-leb, lt-leb}
+use Rattle.users.specs.Users.{isUser}
+use Rattle.condition.specs.declared.Condition.{Condition}
+use Rattle.condition.specs.declared.Pending.{Pending}
+use Rattle.condition.specs.declared.Pending.the-variants.{Nothing}
+use Rattle.condition.specs.Set.{withCursor, withCell}
+use Rattle.condition.specs.Bytes.{scrollOf, rightOf, pushOf, writeOf, isChar, controlOf, dataOf, stepAt, stepOf}
+use Rattle.condition.specs.Busy.{writeBusy, controlBusy, figureAt}
+use Rattle.block.specs.Layout.{conditionIn, pendingOf}
+use Rattle.inplace.specs.InPlace.{Stepped}
+use Rattle.inplace.proofs.Tests.{inner-column, edge-column, awaits-data, or-true}
+use Rattle.inplace.proofs.InPlace.{cursor-at, mode-at, pending-at}
+
+-- 09h, with the column's test r
+module _ (s : List ℕ) (r : Bool) (at : r ≡ ltb (getD s 3 0 % 20) 19) where
+  pub right-one : r ≡ true → withCursor (conditionIn s) (getD s 3 0 + 1) ≡ rightOf (conditionIn s)
+  unfolding rightOf
+  right-one e = rw (cursor-at s, ← at, e)
+
+  pub right-stays : r ≡ false → getD s 4 0 ≡ 3 → conditionIn s ≡ rightOf (conditionIn s)
+  unfolding rightOf
+  right-stays e m = rw (cursor-at s, ← at, e, mode-at s, eq-eqb _ _ m)
+
+  pub right-next : r ≡ false → (getD s 4 0 ≡ 3 → ⊥) → getD s 3 0 ≡ 19 → withCursor (conditionIn s) 20 ≡ rightOf (conditionIn s)
+  unfolding rightOf
+  right-next e m x = rw (cursor-at s, ← at, e, mode-at s, ne-eqb _ _ m, eq-eqb _ _ x)
+
+  pub right-home : r ≡ false → (getD s 4 0 ≡ 3 → ⊥) → (getD s 3 0 ≡ 19 → ⊥) → getD s 4 0 ≡ 1
+      → withCursor (conditionIn s) 0 ≡ rightOf (conditionIn s)
+  unfolding rightOf
+  right-home e m x k = rw (cursor-at s, ← at, e, mode-at s, ne-eqb _ _ m, ne-eqb _ _ x, eq-eqb _ _ k)
+
+  pub right-scroll : r ≡ false → (getD s 4 0 ≡ 3 → ⊥) → (getD s 3 0 ≡ 19 → ⊥) → (getD s 4 0 ≡ 1 → ⊥)
+      → withCursor (scrollOf (conditionIn s)) 20 ≡ rightOf (conditionIn s)
+  unfolding rightOf
+  right-scroll e m x k = rw (cursor-at s, ← at, e, mode-at s, ne-eqb _ _ m, ne-eqb _ _ x, ne-eqb _ _ k)
+
+  -- a write in mode 3
+  module _ (b : ℕ) (m : getD s 4 0 ≡ 3) where
+    pub write-inner : r ≡ true
+        → withCursor (withCell (conditionIn s) (getD s 3 0) b) (getD s 3 0 + 1) ≡ writeOf (conditionIn s) b
+    unfolding writeOf rightOf
+    write-inner e =
+        rw (cursor-at s, inner-column (getD s 3 0) (sym at ∙ e), mode-at s, eq-eqb _ _ m, ← at, e)
+
+    pub write-edge : r ≡ false → pushOf (conditionIn s) b ≡ writeOf (conditionIn s) b
+    unfolding writeOf
+    write-edge e = rw (cursor-at s, edge-column (getD s 3 0) (sym at ∙ e), mode-at s, eq-eqb _ _ m)
+
+-- a write in mode 1 or 2
+pub write-on : (s : List ℕ) (b : ℕ) → (getD s 4 0 ≡ 3 → ⊥) → rightOf (withCell (conditionIn s) (getD s 3 0) b) ≡ writeOf (conditionIn s) b
+unfolding writeOf
+write-on s b m = rw (cursor-at s, mode-at s, ne-eqb _ _ m)
+
+-- a byte that continues what is half received
+pub half-step : (s : List ℕ) (b : ℕ) (p : Pending) → pendingOf (getD s 13 0) (getD s 14 0) (getD s 15 0) ≡ p
+    → stepAt p (conditionIn s) b ≡ stepOf (conditionIn s) b
+half-step s b p e = rw (pending-at s, e)
+
+-- a byte of user data
+pub data-step : (s : List ℕ) (b : ℕ) → 0 < getD s 13 0 → (getD s 13 0 ≡ 1 → ⊥) → (getD s 13 0 ≡ 2 → ⊥) → (getD s 13 0 ≡ 3 → ⊥)
+    → (getD s 13 0 ≡ 4 → ⊥) → (getD s 13 0 ≡ 5 → ⊥) → dataOf (conditionIn s) (getD s 14 0) (getD s 15 0) b ≡ stepOf (conditionIn s) b
+unfolding stepAt
+data-step s b h h1 h2 h3 h4 h5 = half-step s b _ (awaits-data (getD s 13 0) (getD s 14 0) (getD s 15 0) h h1 h2 h3 h4 h5)
+
+-- Which bytes are characters: 20h-FFh, and a user code
+module _ (c : Condition) (b : ℕ) where
+  pub plain-char : 0x20 ≤ b → isChar c b ≡ true
+  unfolding isChar
+  plain-char h = rw (le-leb 0x20 b h) (or-true (isUser (c .users) b))
+
+  pub user-char : (r : Bool) → r ≡ isUser (c .users) b → r ≡ true → isChar c b ≡ true
+  unfolding isChar
+  user-char r h e = rw (← h, e)
+
+  pub no-char : (r : Bool) → r ≡ isUser (c .users) b → r ≡ false → b < 0x20 → isChar c b ≡ false
+  unfolding isChar
+  no-char r h e l = rw (← h, e, lt-leb 0x20 b l)
+
+-- A byte where nothing is half received
+module _ (s : List ℕ) (b : ℕ) (z : getD s 13 0 ≡ 0) (k : Condition) (r : ℕ) where
+  nothing : conditionIn s .pending ≡ Nothing
+  nothing = pending-at s ∙ rw z
+
+  pub char-step : isChar (conditionIn s) b ≡ true → k ≡ writeOf (conditionIn s) b → r ≡ writeBusy (conditionIn s)
+      → Stepped (conditionIn s) b k r
+  unfolding stepAt figureAt isChar
+  char-step i p q = record { leaves = p ∙ rw (nothing, i); takes = q ∙ rw (nothing, i) }
+
+  pub control-step : isChar (conditionIn s) b ≡ false → k ≡ controlOf (conditionIn s) b → r ≡ controlBusy (conditionIn s) b
+      → Stepped (conditionIn s) b k r
+  unfolding stepAt figureAt isChar
+  control-step i p q = record { leaves = p ∙ rw (nothing, i); takes = q ∙ rw (nothing, i) }

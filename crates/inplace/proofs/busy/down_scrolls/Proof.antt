@@ -1,0 +1,24 @@
+use Rattle.condition.specs.Busy.{downScrolls}
+use Rattle.inplace.proofs.InPlace.{cursor-at, mode-at}
+use borrow.Author.Tests.{eq-eqb, ne-eqb}
+use borrow.Author.Needs.{needs}
+use Rattle.inplace.proofs.busy.down_scrolls.Statement.{statement}
+use Rattle.inplace.proofs.busy.down_scrolls.Tie as tie
+
+shared-slice-read-if1 : tie.Need-shared-slice-read-if1
+shared-slice-read-if1 c = search needs
+
+shared-slice-read-result : tie.Need-shared-slice-read-result
+shared-slice-read-result c = search needs
+
+returns : tie.Need-returns
+unfolding downScrolls
+returns c = simp (cursor-at, mode-at, eq-eqb _ _ (c .before .if1 .taken))
+
+returns-2 : tie.Need-returns-2
+unfolding downScrolls
+returns-2 c = simp (cursor-at, mode-at, ne-eqb _ _ (c .if1 .left))
+
+pub down-scrolls-spec : {M : Type 1} → statement M
+down-scrolls-spec =
+    tie.close (tie.spec shared-slice-read-if1 shared-slice-read-result returns returns-2)

@@ -1,0 +1,25 @@
+use Rattle.inplace.proofs.InPlace.{stores}
+use native.Mathlib.Omega.{arith}
+use lib.ListN.{length-set}
+use borrow.Author.Needs.{needs}
+use Rattle.inplace.proofs.fields.set_pending.Statement.{statement}
+use Rattle.inplace.proofs.fields.set_pending.Tie as tie
+
+slice-write-s : tie.Need-slice-write-s
+slice-write-s c = search needs
+
+slice-write-s-2 : tie.Need-slice-write-s-2
+slice-write-s-2 c = simp length-set (omega arith)
+
+slice-write-s-3 : tie.Need-slice-write-s-3
+slice-write-s-3 c = simp length-set (omega arith)
+
+same-length : tie.Need-same-length
+same-length c = search needs
+
+returns : tie.Need-returns
+returns c = search (stores, needs)
+
+pub set-pending-spec : {M : Type 1} → statement M
+set-pending-spec =
+    tie.close (tie.spec slice-write-s slice-write-s-2 slice-write-s-3 same-length returns)

@@ -1,0 +1,89 @@
+use Prim.Native.Nat.{_≤_, _-_}
+use mathlib.Core.Path.{_≡_}
+use native.Mathlib.Omega.{arith}
+use borrow.Author.Needs.{needs}
+use lib.ListN.{length}
+use Rattle.block.specs.Layout.{conditionIn}
+use Rattle.inplace.proofs.Running.{Going, going-starts, going-place, going-turns, going-ends, step-most}
+use Rattle.inplace.proofs.turn.run_in.Statement.{statement}
+use Rattle.inplace.proofs.turn.run_in.Tie as tie
+
+abbrev Inv-loop : tie.InvT-loop
+Inv-loop s₀ bytes busy₀ flickerless₀ i₀ s busy flickerless i =
+    Going (conditionIn s₀) bytes s busy flickerless i × (length bytes ≤ 32768) × (length s ≡ length s₀)
+
+abbrev μ-loop : tie.MeasureT-loop
+μ-loop s₀ bytes busy₀ flickerless₀ i₀ s busy flickerless i = length bytes - i
+
+loop-holds : tie.Need-loop-holds Inv-loop μ-loop
+loop-holds c =
+    let p = c .before .before .pre in
+    (going-starts _ _ (p .0) (p .1), search needs, search needs)
+
+slice-read-one-if : tie.Need-slice-read-one-if Inv-loop μ-loop
+slice-read-one-if c = omega (arith, c .before .before .loop .inv .0 .room)
+
+one-if-requires : tie.Need-one-if-requires Inv-loop μ-loop
+one-if-requires c κs = search needs
+
+add-flickerless : tie.Need-add-flickerless Inv-loop μ-loop
+add-flickerless c = omega (arith, c .one-if .ensures .1, c .before .before .before .loop .inv .0 .flickerless-1)
+
+shared-slice-read-step : tie.Need-shared-slice-read-step Inv-loop μ-loop
+shared-slice-read-step c = omega arith
+
+step-requires : tie.Need-step-requires Inv-loop μ-loop
+step-requires c κs =
+    let g = c .before .before .before .before .before .loop .inv .0 in
+    (g .room, going-place _ _ _ _ _ _ g)
+
+cast-busy : tie.Need-cast-busy Inv-loop μ-loop
+cast-busy c = search needs
+
+add-busy : tie.Need-add-busy Inv-loop μ-loop
+add-busy c =
+    let g = c .before .before .before .before .before .before .before .before .loop .inv .0 in
+    omega (arith, step-most _ _ _ _ (c .before .before .step .ensures), g .busy-65)
+
+add-i : tie.Need-add-i Inv-loop μ-loop
+add-i c = omega arith
+
+loop-less : tie.Need-loop-less Inv-loop μ-loop
+loop-less c = omega arith
+
+loop-again : tie.Need-loop-again Inv-loop μ-loop
+loop-again c =
+    let t = c .before .before .before .before .before .before .before .before in
+    let l = t .loop in
+    let b = c .before .before .before .shared-slice-known2 .given (l .i) in (
+      going-turns _ _ _ _ _ _ (l .inv .0) _ _ _ (c .before .before .before .before .before .before .before .loop-test .taken) (b .fits) (search needs)
+          (c .before .before .step .ensures) (c .before .before .before .before .before .one-if .ensures .0),
+      l .inv .1,
+      search needs,
+    )
+
+same-length : tie.Need-same-length Inv-loop μ-loop
+same-length c = search needs
+
+returns : tie.Need-returns Inv-loop μ-loop
+returns c = going-ends _ _ _ _ _ _ (c .before .loop .inv .0) (c .loop-test .left)
+
+pub run-in-spec : {M : Type 1} → statement M
+run-in-spec =
+    tie.close
+    (tie.spec
+    Inv-loop
+    μ-loop
+    loop-holds
+    slice-read-one-if
+    one-if-requires
+    add-flickerless
+    shared-slice-read-step
+    step-requires
+    cast-busy
+    add-busy
+    add-i
+    loop-less
+    loop-again
+    same-length
+    returns)

@@ -1,0 +1,83 @@
+// A byte, and then bytes in turn, on the packed bytes.
+ghost use mathlib.Core.Path.{_≡_};
+ghost use mathlib.Core.Bool.{true};
+ghost use Prim.Native.Nat.{_≤_, _<_};
+ghost use lib.ListN.{length, getD};
+ghost use lib.Dec.{eqb};
+ghost use Rattle.condition.specs.Condition.{wellFormed};
+ghost use Rattle.condition.specs.Bytes.{writeOf};
+ghost use Rattle.condition.specs.Busy.{writeBusy, one};
+ghost use Rattle.block.specs.Layout.{conditionIn};
+ghost use Rattle.inplace.specs.InPlace.{Stepped, Carried};
+use crate::busy::continued_busy;
+use crate::busy::control_busy;
+use crate::busy::write_busy;
+use crate::chars::is_user;
+use crate::commands::control;
+use crate::commands::write;
+use crate::half::continued;
+use block::FLICKERLESS;
+use block::KIND;
+
+// A character is written; the answer is its busy figure.
+fn character(s: &mut [u8], b: u8) -> u8
+    requires { ⌜ (200 ≤ length (now s)) × (getD (now s) 3 0 < 40) ⌝ }
+    ensures { λ r. ⌜ (conditionIn (now (s .exit)) ≡ writeOf (conditionIn (now (s .entry))) b) × (r ≡ writeBusy (conditionIn (now (s .entry)))) ⌝ }
+{
+    let figure = write_busy(s);
+    write(s, b);
+    figure
+}
+
+// What a byte does; the answer is its busy figure. Printable bytes are told first: they are the most.
+fn step(s: &mut [u8], b: u8) -> u8
+    requires { ⌜ (200 ≤ length (now s)) × (getD (now s) 3 0 < 40) ⌝ }
+    ensures { λ r. ⌜ Stepped (conditionIn (now (s .entry))) b (conditionIn (now (s .exit))) r ⌝ }
+{
+    let kind = s[KIND];
+    if kind != 0 {
+        let figure = continued_busy(s, b);
+        continued(s, b);
+        return figure;
+    }
+    if 0x20 <= b {
+        return character(s, b);
+    }
+    if is_user(s, b) {
+        return character(s, b);
+    }
+    let figure = control_busy(s, b);
+    control(s, b);
+    figure
+}
+
+fn one_if(on: u8) -> u32
+    ensures { λ r. ⌜ (r ≡ one (eqb on 1)) × (r ≤ 1) ⌝ }
+{
+    if on == 1 { 1 } else { 0 }
+}
+
+// What a run adds to the tally beside its length.
+pub(crate) struct Spent {
+    pub(crate) busy: u32,
+    pub(crate) flickerless: u32,
+}
+
+// What bytes do, in turn.
+pub(crate) fn run_in(s: &mut [u8], bytes: &[u8]) -> Spent
+    requires { ⌜ (200 ≤ length (now s)) × (wellFormed (conditionIn (now s)) ≡ true) × (length (now bytes) ≤ 32768) ⌝ }
+    ensures { λ r. ⌜ Carried (conditionIn (now (s .entry))) (now (bytes .entry)) (conditionIn (now (s .exit))) (r .busy) (r .flickerless) ⌝ }
+{
+    let mut busy: u32 = 0;
+    let mut flickerless: u32 = 0;
+    let mut i: usize = 0;
+    while i < bytes.len() {
+        flickerless += one_if(s[FLICKERLESS]);
+        busy += step(s, bytes[i]) as u32;
+        i += 1;
+    }
+    Spent {
+        busy: busy,
+        flickerless: flickerless,
+    }
+}
