@@ -14,7 +14,7 @@ use Rattle.block.specs.Layout.{packedOf, conditionIn}
 use Rattle.block.proofs.PackedBack.{packed-back}
 use Rattle.inplace.specs.declared.After.{After}
 use Rattle.inplace.specs.InPlace.{Carried}
-use Rattle.inplace.specs.Carry.{leftOf, afterOf}
+use Rattle.inplace.specs.Carry.{untouchedOf, afterOf}
 
 -- a run on the packed condition
 pub carries : (c : Condition) (p after : List ℕ) (k : Condition) (bs : List ℕ) (busy flickerless : ℕ) → Sized c → p ≡ packedOf c
@@ -24,11 +24,11 @@ carries c p after k bs busy flickerless s e f g =
     rw f (rw h at g)
 
 module _ (c : Condition) (bs : List ℕ) (r : After) where
-  pub not-formed : wellFormed c ≡ false → r ≡ leftOf c → r ≡ afterOf c bs
+  pub not-formed : wellFormed c ≡ false → r ≡ untouchedOf c → r ≡ afterOf c bs
   unfolding afterOf
   not-formed w e = rw w e
 
-  pub too-long : wellFormed c ≡ true → 32768 < length bs → r ≡ leftOf c → r ≡ afterOf c bs
+  pub too-long : wellFormed c ≡ true → 32768 < length bs → r ≡ untouchedOf c → r ≡ afterOf c bs
   unfolding afterOf
   too-long w h e = rw (w, lt-leb (length bs) 32768 h) e
 

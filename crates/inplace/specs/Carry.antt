@@ -11,11 +11,11 @@ use Rattle.condition.specs.Busy.{busyOf, flickerlessOf}
 use Rattle.inplace.specs.declared.After.{After}
 
 -- a condition that is not well formed, and more than 32,768 bytes, are not taken: nothing is carried out
-abbrev pub leftOf : Condition → After
-leftOf c = record { condition = c; busy = 0; flickerless = 0 }
+abbrev pub untouchedOf : Condition → After
+untouchedOf c = record { condition = c; busy = 0; flickerless = 0 }
 
 unfoldable pub afterOf : Condition → List ℕ → After
 afterOf c bs =
     cond (wellFormed c && leb (length bs) 32768)
     (record { condition = runOf c bs; busy = busyOf c bs; flickerless = flickerlessOf c bs })
-    (leftOf c)
+    (untouchedOf c)

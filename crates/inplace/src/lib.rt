@@ -5,7 +5,7 @@ ghost use Prim.Native.Nat.{_≤_};
 ghost use lib.ListN.{length};
 ghost use Rattle.condition.specs.Condition.{wellFormed};
 ghost use Rattle.inplace.specs.InPlace.{Carried};
-ghost use Rattle.inplace.specs.Carry.{leftOf, afterOf};
+ghost use Rattle.inplace.specs.Carry.{untouchedOf, afterOf};
 use condition::Condition;
 use turn::run_in;
 
@@ -27,8 +27,8 @@ pub struct After {
     pub flickerless: u32,
 }
 
-fn left(c: Condition) -> After
-    ensures { λ r. ⌜ r ≡ leftOf c ⌝ }
+fn untouched(c: Condition) -> After
+    ensures { λ r. ⌜ r ≡ untouchedOf c ⌝ }
 {
     After {
         condition: c,
@@ -56,10 +56,10 @@ pub fn carry(c: Condition, bytes: &[u8]) -> After
     ensures { λ r. ⌜ r ≡ afterOf c (now (bytes .entry)) ⌝ }
 {
     if !c.well_formed() {
-        return left(c);
+        return untouched(c);
     }
     if MOST_BYTES < bytes.len() {
-        return left(c);
+        return untouched(c);
     }
     carry_in(c, bytes)
 }

@@ -8,18 +8,18 @@ use Rattle.inplace.proofs.carry.Tie as tie
 well-formed-requires : tie.Need-well-formed-requires
 well-formed-requires c κs = search needs
 
-left-requires : tie.Need-left-requires
-left-requires c κs = search needs
+untouched-requires : tie.Need-untouched-requires
+untouched-requires c κs = search needs
 
 returns : tie.Need-returns
-returns c = not-formed _ _ _ (sym (c .before .before .well-formed .ensures) ∙ not-true _ (c .before .if1 .taken)) (c .left .ensures)
+returns c = not-formed _ _ _ (sym (c .before .before .well-formed .ensures) ∙ not-true _ (c .before .if1 .taken)) (c .untouched .ensures)
 
-left-requires-2 : tie.Need-left-requires-2
-left-requires-2 c κs = search needs
+untouched-requires-2 : tie.Need-untouched-requires-2
+untouched-requires-2 c κs = search needs
 
 returns-2 : tie.Need-returns-2
 returns-2 c =
-    too-long _ _ _ (sym (c .before .before .before .well-formed .ensures) ∙ not-false _ (c .before .before .if1 .left)) (c .before .if2 .taken) (c .left2 .ensures)
+    too-long _ _ _ (sym (c .before .before .before .well-formed .ensures) ∙ not-false _ (c .before .before .if1 .left)) (c .before .if2 .taken) (c .untouched2 .ensures)
 
 carry-in-requires : tie.Need-carry-in-requires
 carry-in-requires c κs = (sym (c .before .before .well-formed .ensures) ∙ not-false _ (c .before .if1 .left), c .if2 .left)
@@ -33,9 +33,9 @@ carry-spec =
     tie.close
     (tie.spec
     well-formed-requires
-    left-requires
+    untouched-requires
     returns
-    left-requires-2
+    untouched-requires-2
     returns-2
     carry-in-requires
     returns-3)
