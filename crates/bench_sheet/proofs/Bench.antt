@@ -4,12 +4,12 @@ use lib.ListN.{length}
 use borrow.Author.Tests.{eq-eqb, le-leb}
 use Rattle.row.specs.Row.{lineStart, scrolled, shifted}
 use Rattle.users.specs.Users.{limitOf, foundIn, isUser, characterAt, putOf, definedAt, defineOf}
-use Rattle.users.specs.Dots.{dotOf, litUpTo, litOf}
+use Rattle.dots.specs.Dots.{dotOf, litUpTo, litOf}
 use Rattle.condition.specs.Condition.{allUpTo, absent, usersGood, pendingGood, numbersGood, scrollGood, escapeGood, wellFormed, powerUp}
 use Rattle.condition.specs.Bytes.{scrollOf, leftOf, rightOf, downOf, returnOf, clearOf, pushOf, writeOf, isChar, controlOf, escapeOf, positionOf, dataOf, stepAt, runOf}
 use Rattle.condition.specs.Busy.{rightScrolls, downScrolls, lineShifts, writeBusy, controlBusy, escapeBusy, figureAt, busyOf}
-use Rattle.condition.specs.Shows.{showsCode, showsOf}
-use Rattle.condition.specs.Answers.{lookupOf, dotAnswer, litAnswer}
+use Rattle.glass.specs.Shows.{showsCode, showsOf}
+use Rattle.glass.specs.Answers.{lookupOf, dotAnswer, litAnswer}
 use Rattle.condition.specs.Steps.{wrong}
 use Rattle.moves.specs.Moves.{left, next, down, move, near1, near2, dist}
 use Rattle.moves.specs.Ways.{leaves, firstByte, pathOf, path}

@@ -6,12 +6,12 @@ use mathlib.Core.Bool.{cond}
 use lib.ListN.{length, getD, set, drop, replicate}
 use lib.Dec.{eqb}
 use Rattle.condition.specs.declared.Condition.{Condition}
-use Rattle.condition.specs.declared.Shows.the-variants.{Blank, Euro}
+use Rattle.glass.specs.declared.Shows.the-variants.{Blank, Euro}
 use Rattle.condition.specs.Condition.{powerUp}
 use Rattle.condition.specs.Bytes.{runOf}
 use Rattle.condition.specs.Busy.{busyOf}
-use Rattle.condition.specs.Shows.{showsOf}
-use Rattle.condition.specs.Answers.{dotAnswer, litAnswer}
+use Rattle.glass.specs.Shows.{showsOf}
+use Rattle.glass.specs.Answers.{dotAnswer, litAnswer}
 use Rattle.planner.specs.Plan.{plan}
 use Rattle.planner.specs.Answer.{planRefusal}
 

@@ -11,7 +11,7 @@ use Rattle.condition.specs.declared.Condition.{Condition}
 use Rattle.condition.specs.declared.Outcome.{Outcome}
 use Rattle.condition.specs.Condition.{wellFormed}
 use Rattle.block.specs.declared.Written.{Written}
-use Rattle.block.specs.Layout.{conditionIn}
+use Rattle.layout.specs.Layout.{conditionIn}
 use Rattle.block.specs.Block.{blockOf}
 use Rattle.block.specs.Reading.{intact, sound, readRefusal, refusedOf, readAnswer, ReadPromise}
 use Rattle.block.specs.Writing.{writeRefusal, writeAnswer, writeOut, WritePromise}

@@ -1,5 +1,3 @@
-pub mod Parts
-pub mod PackedBack
 pub mod Sealing
 pub mod Tidying
 pub mod RoundTrip

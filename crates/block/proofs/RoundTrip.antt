@@ -11,11 +11,11 @@ use borrow.Author.Tests.{eqb-true, eq-eqb}
 use Rattle.condition.specs.declared.Condition.{Condition}
 use Rattle.condition.specs.declared.Outcome.{Outcome}
 use Rattle.condition.specs.Condition.{numbersGood, scrollGood, allUpTo, usersGood, pendingGood, escapeGood, wellFormed, powerUp}
-use Rattle.block.specs.Layout.{headOf, packedOf, conditionIn}
+use Rattle.layout.specs.Layout.{headOf, packedOf, conditionIn}
 use Rattle.block.specs.Block.{checkOf, bodyOf, sealOf, blockOf}
 use Rattle.block.specs.Reading.{sameBytes, intact, sound, readRefusal, refusedOf, readAnswer}
 use Rattle.condition.proofs.Good.{Sized}
-use Rattle.block.proofs.PackedBack.{back-with}
+use Rattle.layout.proofs.PackedBack.{back-with}
 use Rattle.block.proofs.Sealing.{length-body, length-block, check-body}
 use Rattle.block.proofs.Tidying.{same-eq, same-refl, block-parts}
 

@@ -7,13 +7,10 @@ use lib.ListN.{length, take, drop, set, replicate, length-append}
 use lib.Seq.{take-at, take-all, set-at, append-snoc}
 use Rattle.row.specs.Row.{laid}
 use Rattle.condition.specs.declared.Condition.{Condition}
-use Rattle.block.specs.Layout.{headOf, packedOf}
+use Rattle.layout.specs.Layout.{packedOf}
 use Rattle.block.specs.Block.{weigh, checkOf, bodyOf, sealOf, blockOf}
 use Rattle.condition.proofs.Good.{Sized}
-
-pub length-packed : (c : Condition) → Sized c → length (packedOf c) ≡ 200
-unfolding packedOf headOf
-length-packed c z = simp (length-append, z .codes-40, z .fonts-40, z .users-96)
+use Rattle.layout.proofs.PackedBack.{length-packed}
 
 pub length-body : (c : Condition) → Sized c → length (bodyOf c) ≡ 510
 unfolding bodyOf

@@ -14,12 +14,13 @@ use Rattle.condition.specs.declared.Pending.{Pending}
 use Rattle.condition.specs.declared.Pending.the-variants.{Nothing, Escape, Position, Luminance, Speed, UserCode, UserData}
 use Rattle.condition.specs.Condition.{heldOf, allUpTo}
 use Rattle.condition.proofs.Places.{both}
-use Rattle.block.specs.Layout.{flag, kindOf, codeOf, headOf, packedOf, pendingOf, conditionIn}
+use Rattle.layout.specs.Layout.{flag, kindOf, codeOf, headOf, packedOf, pendingOf, conditionIn}
 use Rattle.block.specs.Block.{checkOf, bodyOf, sealOf, blockOf}
 use Rattle.block.specs.Reading.{sameBytes, intact}
 use Rattle.block.specs.Tidy.{kindGood, tidy}
 use Rattle.condition.proofs.Good.{Sized}
-use Rattle.block.proofs.Sealing.{length-packed, length-body, check-body}
+use Rattle.layout.proofs.PackedBack.{length-packed}
+use Rattle.block.proofs.Sealing.{length-body, check-body}
 
 pub same-eq : (x y : List ℕ) → sameBytes x y ≡ true → x ≡ y
 unfolding sameBytes

@@ -3,7 +3,7 @@ use Prim.Native.Nat.{ℕ, _+_, _*_, _/_, _%_}
 use mathlib.Core.List.{List, [], _∷_, _++_}
 use lib.ListN.{take, replicate}
 use Rattle.condition.specs.declared.Condition.{Condition}
-use Rattle.block.specs.Layout.{packedOf}
+use Rattle.layout.specs.Layout.{packedOf}
 
 -- the sum of each byte times its place, the first place being n
 unfoldable pub weigh : ℕ → List ℕ → ℕ

@@ -7,7 +7,7 @@ use lib.ListN.{length, getD}
 use lib.Dec.{eqb}
 use Rattle.condition.specs.declared.Outcome.{Outcome}
 use Rattle.condition.specs.Condition.{wellFormed, powerUp}
-use Rattle.block.specs.Layout.{conditionIn}
+use Rattle.layout.specs.Layout.{conditionIn}
 use Rattle.block.specs.Block.{checkOf, blockOf}
 
 -- two rows of bytes are the same

@@ -1,11 +1,12 @@
 -- The condition (document 01, The condition): positions, power-up, and what is well formed.
 use Prim.Native.Nat.{ℕ, zero, suc, _%_}
 use mathlib.Core.List.{List, [], _∷_}
-use mathlib.Core.Bool.{Bool, true, false, not, _&&_, _||_}
+use mathlib.Core.Bool.{Bool, true, false, cond, not, _&&_, _||_}
 use lib.ListN.{getD, drop, replicate}
 use lib.Dec.{eqb, ltb, leb}
 use Rattle.users.specs.declared.Users.{Users}
 use Rattle.condition.specs.declared.Condition.{Condition}
+use Rattle.condition.specs.declared.Outcome.{Outcome}
 use Rattle.condition.specs.declared.Pending.{Pending}
 use Rattle.condition.specs.declared.Pending.the-variants.{Nothing, Escape, Position, Luminance, Speed, UserCode, UserData}
 
@@ -99,3 +100,9 @@ powerUp f =
       pending = Nothing;
       held = replicate 4 0;
     }
+
+-- What power-up answers (Refusal numbers and their order): a refusal number, 0 when accepted, and the condition. 3: font link above
+-- 1; a refused power-up returns power-up for font 0
+unfoldable pub powerUpAnswer : ℕ → Outcome
+powerUpAnswer font =
+    cond (leb font 1) (record { refusal = 0; condition = powerUp font }) (record { refusal = 3; condition = powerUp 0 })

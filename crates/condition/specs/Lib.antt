@@ -2,6 +2,4 @@ pub mod Set
 pub mod Condition
 pub mod Bytes
 pub mod Busy
-pub mod Shows
-pub mod Answers
 pub mod Steps

@@ -1,14 +1,9 @@
-// A module's condition: what it holds, when it is well formed, power-up, and what a cell shows.
+// A module's condition: what it holds, when it is well formed, and power-up.
 ghost use mathlib.Core.Path.{_≡_};
 ghost use mathlib.Core.Bool.{true};
 ghost use Prim.Native.Nat.{_+_, _*_, _≤_};
 ghost use lib.ListN.{length};
-ghost use Rattle.users.specs.Users.{characterAt};
-ghost use Rattle.condition.specs.Condition.{idle, heldOf, allUpTo, absent, usersGood, pendingGood, numbersGood, scrollGood, wellFormed, powerUp};
-ghost use Rattle.condition.specs.Shows.{showsCode, euroOr};
-ghost use Rattle.condition.specs.Answers.{powerUpAnswer, viewAnswer, lookupOf, dotAnswer, underlineAnswer, litAnswer};
-use users::Character;
-use users::Found;
+ghost use Rattle.condition.specs.Condition.{idle, heldOf, allUpTo, absent, usersGood, pendingGood, numbersGood, scrollGood, wellFormed, powerUp, powerUpAnswer};
 use users::Users;
 
 // The half-received command. A user character's data has its code and the count of bytes held.
@@ -49,25 +44,6 @@ pub struct Condition {
 pub struct Outcome {
     pub refusal: u8,
     pub condition: Condition,
-}
-
-// What a cell shows: nothing, the user character of a code, the Euro mark, or a built-in code in a font.
-pub enum Shows {
-    Blank,
-    User(u8),
-    Euro,
-    BuiltIn(u8, u8),
-}
-
-pub struct Seen {
-    pub refusal: u8,
-    pub shows: Shows,
-}
-
-// What a question about a user character gives.
-pub struct Answer {
-    pub refusal: u8,
-    pub value: u32,
 }
 
 // Every byte of s is at most n.
@@ -258,137 +234,5 @@ impl Condition {
             & users_good(n, &bytes)
             & pending_good(p, h)
             & (is_idle(p) | is_absent(0x1B, n, &bytes))
-    }
-}
-
-fn euro_or(on: bool) -> Shows
-    ensures { λ r. ⌜ r ≡ euroOr on ⌝ }
-{
-    if on { Shows::Euro } else { Shows::Blank }
-}
-
-// What a code in a font shows: the first that fits.
-fn shows_code(c: Condition, code: u8, font: u8) -> Shows
-    ensures { λ r. ⌜ r ≡ showsCode c code font ⌝ }
-{
-    let u = c.users;
-    let bytes = u.bytes;
-    if users::is_found(users::find(&bytes, u.count, code)) {
-        return Shows::User(code);
-    }
-    if code < 0x20 {
-        return Shows::Blank;
-    }
-    if (code == 0xAD) & (font == 0) {
-        return euro_or(c.euro);
-    }
-    Shows::BuiltIn(code, font)
-}
-
-// What the cell at a position shows.
-pub fn view(c: Condition, position: u32) -> Seen
-    ensures { λ r. ⌜ r ≡ viewAnswer c position ⌝ }
-{
-    if !c.well_formed() {
-        return Seen {
-            refusal: 3,
-            shows: Shows::Blank,
-        };
-    }
-    if 39 < position {
-        return Seen {
-            refusal: 3,
-            shows: Shows::Blank,
-        };
-    }
-    let i = position as usize;
-    let codes = c.codes;
-    let fonts = c.fonts;
-    Seen {
-        refusal: 0,
-        shows: shows_code(c, codes[i], fonts[i]),
-    }
-}
-
-// The user character of a code, where the condition is well formed and it is defined.
-fn lookup(c: Condition, code: u8) -> Found
-    ensures { λ r. ⌜ r ≡ lookupOf c code ⌝ }
-{
-    if !c.well_formed() {
-        return Found::Missing;
-    }
-    let u = c.users;
-    let bytes = u.bytes;
-    users::find(&bytes, u.count, code)
-}
-
-fn drawn(c: Condition, place: usize) -> Character
-    ensures { λ r. ⌜ r ≡ characterAt (c .users .bytes) place ⌝ }
-{
-    let u = c.users;
-    let bytes = u.bytes;
-    users::character_at(&bytes, place)
-}
-
-// Dot k of a user character, asked by its code: 1 where it is lit, else 0.
-pub fn dot(c: Condition, code: u8, k: u32) -> Answer
-    ensures { λ r. ⌜ r ≡ dotAnswer c code k ⌝ }
-{
-    if k < 1 {
-        return Answer {
-            refusal: 3,
-            value: 0,
-        };
-    }
-    if 35 < k {
-        return Answer {
-            refusal: 3,
-            value: 0,
-        };
-    }
-    let Found::At(place) = lookup(c, code) else {
-        return Answer {
-            refusal: 3,
-            value: 0,
-        };
-    };
-    let d = drawn(c, place);
-    Answer {
-        refusal: 0,
-        value: users::dot(d, k) as u32,
-    }
-}
-
-// The underline of a user character, asked by its code.
-pub fn underline(c: Condition, code: u8) -> Answer
-    ensures { λ r. ⌜ r ≡ underlineAnswer c code ⌝ }
-{
-    let Found::At(place) = lookup(c, code) else {
-        return Answer {
-            refusal: 3,
-            value: 0,
-        };
-    };
-    let d = drawn(c, place);
-    Answer {
-        refusal: 0,
-        value: users::underline(d) as u32,
-    }
-}
-
-// How many of its 35 dots a user character lights, asked by its code.
-pub fn lit(c: Condition, code: u8) -> Answer
-    ensures { λ r. ⌜ r ≡ litAnswer c code ⌝ }
-{
-    let Found::At(place) = lookup(c, code) else {
-        return Answer {
-            refusal: 3,
-            value: 0,
-        };
-    };
-    let d = drawn(c, place);
-    Answer {
-        refusal: 0,
-        value: users::lit(d),
     }
 }

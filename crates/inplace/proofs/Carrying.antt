@@ -10,8 +10,8 @@ use Rattle.condition.specs.Condition.{wellFormed}
 use Rattle.condition.specs.Bytes.{runOf}
 use Rattle.condition.specs.Busy.{busyOf, flickerlessOf}
 use Rattle.condition.proofs.Good.{Sized}
-use Rattle.block.specs.Layout.{packedOf, conditionIn}
-use Rattle.block.proofs.PackedBack.{packed-back}
+use Rattle.layout.specs.Layout.{packedOf, conditionIn}
+use Rattle.layout.proofs.PackedBack.{packed-back}
 use Rattle.inplace.specs.declared.After.{After}
 use Rattle.inplace.specs.InPlace.{Carried}
 use Rattle.inplace.specs.Carry.{untouchedOf, afterOf}

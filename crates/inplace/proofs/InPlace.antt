@@ -14,7 +14,7 @@ use Rattle.condition.specs.declared.Condition.{Condition}
 use Rattle.condition.specs.Condition.{powerUp}
 use Rattle.condition.specs.Set.{withCursor, withScrolling, withShown, withFont, withEuro, withLuminance, withSpeed, withFlickerless, withUsers, withPending, withCells, goTo}
 use Rattle.condition.specs.Bytes.{modeOf, internationalOf}
-use Rattle.block.specs.Layout.{conditionIn, pendingOf}
+use Rattle.layout.specs.Layout.{conditionIn, pendingOf}
 use Rattle.inplace.specs.InPlace.{blankOf, heldIn, releasedIn, resetIn, withUserBytes, definedIn}
 
 -- a property of every list of n elements or more, by its first n elements

@@ -14,7 +14,7 @@ use Rattle.condition.specs.Busy.{busyOf, one, flickerlessOf}
 use Rattle.condition.proofs.Good.{good, Sized}
 use Rattle.condition.proofs.Kept.{step-kept}
 use Rattle.condition.proofs.Pieces.{run-turn, busy-turn, flickerless-turn, run-ended, busy-ended, flickerless-ended, figure-most, one-most}
-use Rattle.block.specs.Layout.{conditionIn}
+use Rattle.layout.specs.Layout.{conditionIn}
 use Rattle.inplace.specs.InPlace.{Stepped, Carried}
 use Rattle.inplace.proofs.InPlace.{cursor-at, flickerless-at}
 

@@ -5,7 +5,7 @@ use mathlib.Core.Bool.{Bool, true, false, _||_}
 use native.Mathlib.Omega.{arith}
 use lib.Dec.{eqb, ltb}
 use Rattle.condition.specs.declared.Pending.the-variants.{UserData}
-use Rattle.block.specs.Layout.{pendingOf}
+use Rattle.layout.specs.Layout.{pendingOf}
 use borrow.Author.Tests.{lt-ltb, le-ltb, le-leb, lt-leb, eq-eqb, ne-eqb, ltb-true, ltb-false}
 
 -- what turns a test into its answer: `search tests`

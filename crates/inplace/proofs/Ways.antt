@@ -13,7 +13,7 @@ use Rattle.condition.specs.declared.Pending.the-variants.{Nothing}
 use Rattle.condition.specs.Set.{withCursor, withCell}
 use Rattle.condition.specs.Bytes.{scrollOf, rightOf, pushOf, writeOf, isChar, controlOf, dataOf, stepAt, stepOf}
 use Rattle.condition.specs.Busy.{writeBusy, controlBusy, figureAt}
-use Rattle.block.specs.Layout.{conditionIn, pendingOf}
+use Rattle.layout.specs.Layout.{conditionIn, pendingOf}
 use Rattle.inplace.specs.InPlace.{Stepped}
 use Rattle.inplace.proofs.Tests.{inner-column, edge-column, awaits-data, or-true}
 use Rattle.inplace.proofs.InPlace.{cursor-at, mode-at, pending-at}

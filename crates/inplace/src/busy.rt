@@ -3,13 +3,13 @@ ghost use mathlib.Core.Path.{_≡_};
 ghost use Prim.Native.Nat.{_≤_, _<_};
 ghost use lib.ListN.{length, getD};
 ghost use Rattle.condition.specs.Busy.{rightScrolls, downScrolls, lineShifts, writeBusy, controlBusy, escapeBusy, figureOf};
-ghost use Rattle.block.specs.Layout.{conditionIn};
+ghost use Rattle.layout.specs.Layout.{conditionIn};
 use crate::commands::below_19;
-use block::CURSOR;
-use block::HOLDS;
-use block::KIND;
-use block::MODE;
-use block::SCROLLING;
+use layout::CURSOR;
+use layout::HOLDS;
+use layout::KIND;
+use layout::MODE;
+use layout::SCROLLING;
 
 // The display scrolls when the cursor goes right.
 fn right_scrolls(s: &[u8]) -> bool

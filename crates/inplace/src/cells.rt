@@ -4,14 +4,14 @@ ghost use Prim.Native.Nat.{_≤_};
 ghost use lib.ListN.{length};
 ghost use Rattle.condition.specs.Set.{withCell};
 ghost use Rattle.condition.specs.Bytes.{scrollOf, clearOf};
-ghost use Rattle.block.specs.Layout.{conditionIn};
+ghost use Rattle.layout.specs.Layout.{conditionIn};
 ghost use Rattle.inplace.specs.InPlace.{shiftOf, blankOf};
 use crate::fields::set_scrolling;
-use block::CODES;
-use block::CURSOR;
-use block::FONT;
-use block::FONTS;
-use block::USERS;
+use layout::CODES;
+use layout::CURSOR;
+use layout::FONT;
+use layout::FONTS;
+use layout::USERS;
 
 pub(crate) fn put(s: &mut [u8], at: u8, b: u8)
     requires { ⌜ 200 ≤ length (now s) ⌝ }

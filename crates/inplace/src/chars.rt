@@ -3,12 +3,12 @@ ghost use mathlib.Core.Path.{_≡_};
 ghost use Prim.Native.Nat.{_≤_};
 ghost use lib.ListN.{length, replicate};
 ghost use Rattle.users.specs.Users.{isUser};
-ghost use Rattle.block.specs.Layout.{conditionIn};
+ghost use Rattle.layout.specs.Layout.{conditionIn};
 ghost use Rattle.inplace.specs.InPlace.{definedIn, withUserBytes};
-use block::COUNT;
-use block::HELD;
-use block::PACKED;
-use block::USERS;
+use layout::COUNT;
+use layout::HELD;
+use layout::PACKED;
+use layout::USERS;
 
 // A user character sits on the code.
 pub(crate) fn is_user(s: &[u8], code: u8) -> bool

@@ -4,7 +4,7 @@ ghost use Prim.Native.Nat.{_≤_, _<_, _%_};
 ghost use lib.ListN.{length, getD};
 ghost use lib.Dec.{ltb};
 ghost use Rattle.condition.specs.Bytes.{leftOf, rightOf, downOf, returnOf, pushOf, writeOf, controlOf};
-ghost use Rattle.block.specs.Layout.{conditionIn};
+ghost use Rattle.layout.specs.Layout.{conditionIn};
 use crate::cells::clear;
 use crate::cells::put;
 use crate::cells::scroll;
@@ -18,9 +18,9 @@ use crate::fields::set_mode;
 use crate::fields::set_pending;
 use crate::fields::set_scrolling;
 use crate::fields::set_shown;
-use block::CURSOR;
-use block::MODE;
-use block::SCROLLING;
+use layout::CURSOR;
+use layout::MODE;
+use layout::SCROLLING;
 
 // 08h.
 fn left(s: &mut [u8])

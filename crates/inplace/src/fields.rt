@@ -6,21 +6,21 @@ ghost use lib.ListN.{length};
 ghost use lib.Dec.{eqb};
 ghost use Rattle.condition.specs.Set.{withCursor, goTo, withScrolling, withShown, withFont, withEuro, withLuminance, withSpeed, withFlickerless, withPending};
 ghost use Rattle.condition.specs.Bytes.{modeOf, internationalOf};
-ghost use Rattle.block.specs.Layout.{conditionIn, pendingOf};
+ghost use Rattle.layout.specs.Layout.{conditionIn, pendingOf};
 ghost use Rattle.inplace.specs.InPlace.{heldIn, releasedIn};
-use block::CODE;
-use block::CURSOR;
-use block::EURO;
-use block::FLICKERLESS;
-use block::FONT;
-use block::HELD;
-use block::HOLDS;
-use block::KIND;
-use block::LUMINANCE;
-use block::MODE;
-use block::SCROLLING;
-use block::SHOWN;
-use block::SPEED;
+use layout::CODE;
+use layout::CURSOR;
+use layout::EURO;
+use layout::FLICKERLESS;
+use layout::FONT;
+use layout::HELD;
+use layout::HOLDS;
+use layout::KIND;
+use layout::LUMINANCE;
+use layout::MODE;
+use layout::SCROLLING;
+use layout::SHOWN;
+use layout::SPEED;
 
 pub(crate) fn move_to(s: &mut [u8], x: u8)
     requires { ⌜ 200 ≤ length (now s) ⌝ }

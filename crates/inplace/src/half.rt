@@ -4,7 +4,7 @@ ghost use Prim.Native.Nat.{_≤_, _<_};
 ghost use lib.ListN.{length, getD};
 ghost use Rattle.condition.specs.Condition.{powerUp};
 ghost use Rattle.condition.specs.Bytes.{escapeOf, positionOf, dataOf, stepOf};
-ghost use Rattle.block.specs.Layout.{conditionIn};
+ghost use Rattle.layout.specs.Layout.{conditionIn};
 ghost use Rattle.inplace.specs.InPlace.{resetIn};
 use crate::cells::blank;
 use crate::chars::define;
@@ -16,12 +16,12 @@ use crate::fields::release;
 use crate::fields::set_luminance;
 use crate::fields::set_pending;
 use crate::fields::set_speed;
-use block::CODE;
-use block::CURSOR;
-use block::HOLDS;
-use block::KIND;
-use block::LINK;
-use block::UNUSED;
+use layout::CODE;
+use layout::CURSOR;
+use layout::HOLDS;
+use layout::KIND;
+use layout::LINK;
+use layout::UNUSED;
 
 // The bytes from the cursor's to the user count as at power-up.
 fn reset(s: &mut [u8], link: u8)

@@ -41,9 +41,9 @@ fn carry_in(c: Condition, bytes: &[u8]) -> After
     requires { ⌜ (wellFormed c ≡ true) × (length (now bytes) ≤ 32768) ⌝ }
     ensures { λ r. ⌜ Carried c (now (bytes .entry)) (r .condition) (r .busy) (r .flickerless) ⌝ }
 {
-    let mut s = block::packed(c);
+    let mut s = layout::packed(c);
     let spent = run_in(&mut s, bytes);
-    let after = block::unpacked(&s);
+    let after = layout::unpacked(&s);
     After {
         condition: after,
         busy: spent.busy,

@@ -7,7 +7,7 @@ ghost use lib.Dec.{eqb};
 ghost use Rattle.condition.specs.Condition.{wellFormed};
 ghost use Rattle.condition.specs.Bytes.{writeOf};
 ghost use Rattle.condition.specs.Busy.{writeBusy, one};
-ghost use Rattle.block.specs.Layout.{conditionIn};
+ghost use Rattle.layout.specs.Layout.{conditionIn};
 ghost use Rattle.inplace.specs.InPlace.{Stepped, Carried};
 use crate::busy::continued_busy;
 use crate::busy::control_busy;
@@ -16,8 +16,8 @@ use crate::chars::is_user;
 use crate::commands::control;
 use crate::commands::write;
 use crate::half::continued;
-use block::FLICKERLESS;
-use block::KIND;
+use layout::FLICKERLESS;
+use layout::KIND;
 
 // A character is written; the answer is its busy figure.
 fn character(s: &mut [u8], b: u8) -> u8

@@ -12,16 +12,16 @@ use Rattle.moves.proofs.Lists.{bool}
 use Rattle.condition.specs.declared.Condition.{Condition}
 use Rattle.condition.specs.declared.Outcome.{Outcome}
 use Rattle.condition.specs.Condition.{powerUp}
-use Rattle.condition.specs.Answers.{powerUpAnswer}
+use Rattle.condition.specs.Condition.{powerUpAnswer}
 use Rattle.condition.proofs.Good.{Sized, run-sized}
 use Rattle.condition.proofs.Kept.{power-up-good}
-use Rattle.block.specs.Layout.{conditionIn}
+use Rattle.layout.specs.Layout.{conditionIn}
 use Rattle.block.specs.Block.{blockOf}
 use Rattle.block.specs.Reading.{readRefusal, ReadPromise}
 use Rattle.block.specs.Writing.{writeRefusal, writeAnswer, writeOut, WritePromise}
 use Rattle.block.specs.declared.Written.{Written}
 use Rattle.row.specs.Row.{laid}
-use Rattle.block.proofs.Parts.{filled}
+use Rattle.layout.proofs.Parts.{filled}
 use Rattle.block.proofs.Sealing.{length-block}
 use Rattle.block.proofs.RoundTrip.{accepted, refusal-of, reread}
 use Rattle.interpreter.specs.declared.Tally.{Tally}

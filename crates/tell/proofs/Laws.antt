@@ -3,9 +3,9 @@ use Prim.Native.Nat.{ℕ, _≤_, _+_, min}
 use native.Mathlib.Omega.{arith}
 use lib.ListN.{length, length-append}
 use Rattle.condition.specs.declared.Condition.{Condition}
-use Rattle.condition.specs.declared.Shows.{Shows}
-use Rattle.condition.specs.declared.Shows.the-variants.{Blank, User, Euro, BuiltIn}
-use Rattle.condition.specs.Answers.{viewAnswer, dotAnswer, underlineAnswer, litAnswer}
+use Rattle.glass.specs.declared.Shows.{Shows}
+use Rattle.glass.specs.declared.Shows.the-variants.{Blank, User, Euro, BuiltIn}
+use Rattle.glass.specs.Answers.{viewAnswer, dotAnswer, underlineAnswer, litAnswer}
 use Rattle.interpreter.specs.declared.Ran.{Ran}
 use Rattle.lines.specs.Lines.{each}
 use Rattle.lines.proofs.Laws.{each-length, decimal-length, print-length}

@@ -3,10 +3,10 @@ use Prim.Native.Nat.{ℕ, _+_, _*_, min}
 use mathlib.Core.List.{List, [], _∷_, _++_}
 use lib.ListN.{getD}
 use Rattle.condition.specs.declared.Condition.{Condition}
-use Rattle.condition.specs.declared.Shows.{Shows}
-use Rattle.condition.specs.declared.Shows.the-variants.{Blank, User, Euro, BuiltIn}
+use Rattle.glass.specs.declared.Shows.{Shows}
+use Rattle.glass.specs.declared.Shows.the-variants.{Blank, User, Euro, BuiltIn}
 use Rattle.condition.specs.Condition.{powerUp}
-use Rattle.condition.specs.Answers.{viewAnswer, dotAnswer, underlineAnswer, litAnswer}
+use Rattle.glass.specs.Answers.{viewAnswer, dotAnswer, underlineAnswer, litAnswer}
 use Rattle.interpreter.specs.declared.Tally.{Tally}
 use Rattle.interpreter.specs.declared.Ran.{Ran}
 use Rattle.interpreter.specs.Run.{runAnswer}

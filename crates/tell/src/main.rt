@@ -7,7 +7,7 @@ ghost use Rattle.interpreter.specs.Run.{RunPromise};
 ghost use Rattle.lines.specs.Lines.{Added, each};
 ghost use Rattle.tell.specs.Report.{showsText, cellLine, dotText, userLine, placeLine, toldOf, ranOf};
 use condition::Condition;
-use condition::Shows;
+use glass::Shows;
 use interpreter::Ran;
 use interpreter::Tally;
 
@@ -38,7 +38,7 @@ fn add_shows(out: &mut [u8], k: usize, s: Shows) -> usize
 fn add_cell(out: &mut [u8], k: usize, c: Condition, p: u32) -> usize
     ensures { λ r. ⌜ Added (now (out .entry)) k (cellLine c p) (now (out .exit)) r ⌝ }
 {
-    let seen = condition::view(c, p);
+    let seen = glass::view(c, p);
     let s = seen.shows;
     let first = lines::add_number(out, k, b"cell ", p as u64);
     let second = add_shows(out, first, s);
@@ -64,7 +64,7 @@ fn add_dots(out: &mut [u8], k: usize, c: Condition, code: u8) -> usize
     let mut at = k;
     let mut i: u32 = 0;
     while i < 35 {
-        let dot = condition::dot(c, code, i + 1);
+        let dot = glass::dot(c, code, i + 1);
         at = lines::add_number(out, at, b"", dot.value as u64);
         i += 1;
     }
@@ -75,8 +75,8 @@ fn add_dots(out: &mut [u8], k: usize, c: Condition, code: u8) -> usize
 fn add_user(out: &mut [u8], k: usize, c: Condition, code: u8) -> usize
     ensures { λ r. ⌜ Added (now (out .entry)) k (userLine c code) (now (out .exit)) r ⌝ }
 {
-    let underline = condition::underline(c, code);
-    let lit = condition::lit(c, code);
+    let underline = glass::underline(c, code);
+    let lit = glass::lit(c, code);
     let first = lines::add_hex(out, k, b"user ", code);
     let second = lines::add_word(out, first, b" ");
     let third = add_dots(out, second, c, code);

@@ -1,15 +1,12 @@
--- What the functions cite: a place that is found is below the count; a character is defined by how its lookup goes; dots.
-use Prim.Native.Nat.{ℕ, zero, suc, _+_, _-_, _*_, _/_, _^_, _%_, _<_, _≤_, min}
+-- What the functions cite: a place that is found is below the count; a character is defined by how its lookup goes.
+use Prim.Native.Nat.{ℕ, zero, suc, _+_, _*_, _/_, _%_, _<_, min}
 use mathlib.Core.Path.{_≡_, sym, ap, _∙_}
-use mathlib.Core.List.{List, [], _∷_}
+use mathlib.Core.List.{List}
 use mathlib.Core.Bool.{Bool, true, false, cond}
 use native.Mathlib.Omega.{arith}
-use lib.ListN.{length, getD, List·getD-eq-default}
+use lib.ListN.{length, getD}
 use lib.Dec.{eqb}
-use borrow.Author.Tests.{eq-eqb, le-leb, lt-leb}
-use mathlib.Core.Logic.{_⊎_, inl, inr}
-use Rattle.users.specs.Dots.{byteOf, dotOf}
-use Rattle.users.specs.declared.Character.{Character}
+use borrow.Author.Tests.{eq-eqb}
 use Rattle.users.specs.declared.Users.{Users}
 use Rattle.users.specs.declared.Found.{Found}
 use Rattle.users.specs.declared.Found.the-variants.{At}
@@ -42,17 +39,3 @@ pub one-define : (us : List ℕ) (count code : ℕ) (held : List ℕ) (last : �
     → usersIn x r ≡ defineIn us count code held last → usersIn y s ≡ defineIn us count code held last → (x ≡ y) × (r ≡ s)
 one-define us count code held last x y r s p q =
     (ap (λ (u : Users). u .bytes) (p ∙ sym q), ap (λ (u : Users). u .count) (p ∙ sym q))
-
--- there is no sixth byte
-pub byte-past : (d : Character) (i : ℕ) → 5 ≤ i → 0 ≡ byteOf d i
-byte-past d i h = sym (List·getD-eq-default (d .d1 ∷ d .d2 ∷ d .d3 ∷ d .d4 ∷ d .d5 ∷ []) 0 h)
-
--- the dots are 1 to 35
-pub no-dot : (d : Character) (k : ℕ) → (k < 1) ⊎ (35 < k) → 0 ≡ dotOf d k
-unfolding dotOf
-no-dot d k (inl h) = rw (lt-leb 1 k h)
-no-dot d k (inr h) = rw (le-leb 1 k (omega arith), lt-leb k 35 h)
-
-pub dot-law : (d : Character) (k : ℕ) → 1 ≤ k → k ≤ 35 → byteOf d ((k - 1) / 8) / 2 ^ ((k - 1) % 8) % 2 ≡ dotOf d k
-unfolding dotOf
-dot-law d k h l = rw (le-leb 1 k h, le-leb k 35 l)

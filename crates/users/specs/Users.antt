@@ -6,7 +6,7 @@ use lib.ListN.{length, getD, set}
 use lib.Dec.{eqb, ltb, leb}
 use Rattle.row.specs.Row.{advanced}
 use Rattle.users.specs.declared.Users.{Users}
-use Rattle.users.specs.declared.Character.{Character}
+use Rattle.dots.specs.declared.Character.{Character}
 use Rattle.users.specs.declared.Found.{Found}
 use Rattle.users.specs.declared.Found.the-variants.{Missing, At}
 

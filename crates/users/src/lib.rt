@@ -1,10 +1,9 @@
 // Up to 16 user characters in 96 bytes: a place is a code and five bytes, the oldest first.
 ghost use mathlib.Core.Path.{_≡_};
-ghost use Prim.Native.Nat.{_+_, _*_, _≤_};
-ghost use lib.Count.{ones};
+ghost use Prim.Native.Nat.{_*_, _≤_};
 ghost use lib.ListN.{length};
 ghost use Rattle.users.specs.Users.{limitOf, foundIn, isFound, characterAt, putOf, usersIn, defineIn};
-ghost use Rattle.users.specs.Dots.{byteOf, dotOf, underlineOf, litOf};
+use dots::Character;
 
 pub struct Users {
     pub bytes: [u8; 96],
@@ -15,15 +14,6 @@ pub struct Users {
 pub enum Found {
     Missing,
     At(usize),
-}
-
-// A user character's five bytes.
-pub struct Character {
-    pub d1: u8,
-    pub d2: u8,
-    pub d3: u8,
-    pub d4: u8,
-    pub d5: u8,
 }
 
 // As many places as are in use, and no more than there are bytes for.
@@ -117,51 +107,4 @@ pub fn define(bytes: &mut [u8], count: u8, code: u8, held: [u8; 4], last: u8) ->
     row::advance(bytes, 6);
     put(bytes, 90, code, held, low);
     count
-}
-
-fn byte(d: Character, i: u32) -> u8
-    ensures { λ r. ⌜ r ≡ byteOf d i ⌝ }
-{
-    match i {
-        0 => d.d1,
-        1 => d.d2,
-        2 => d.d3,
-        3 => d.d4,
-        4 => d.d5,
-        _ => 0,
-    }
-}
-
-// Dot k of 1 to 35: 1 where it is lit, else 0. Any other k has no dot.
-pub fn dot(d: Character, k: u32) -> u8
-    ensures { λ r. ⌜ r ≡ dotOf d k ⌝ }
-{
-    if k < 1 {
-        return 0;
-    }
-    if 35 < k {
-        return 0;
-    }
-    let i = k - 1;
-    let b = byte(d, i / 8);
-    (b >> (i % 8)) % 2
-}
-
-pub fn underline(d: Character) -> u8
-    ensures { λ r. ⌜ r ≡ underlineOf d ⌝ }
-{
-    d.d5 / 8 % 2
-}
-
-fn ones_in(b: u8) -> u32
-    ensures { λ r. ⌜ (r ≡ ones b) × (r ≤ 8) ⌝ }
-{
-    u32::count_ones(b as u32)
-}
-
-// How many of the 35 dots are lit: the ones of four bytes and of the low three bits of the fifth.
-pub fn lit(d: Character) -> u32
-    ensures { λ r. ⌜ r ≡ litOf d ⌝ }
-{
-    ones_in(d.d1) + ones_in(d.d2) + ones_in(d.d3) + ones_in(d.d4) + ones_in(d.d5 % 8)
 }

@@ -1,6 +1,7 @@
 use mathlib.Core.Path.{ap, sym, _∙_}
 use borrow.Author.Tests.{not-true, not-false}
 use Rattle.condition.specs.Condition.{wellFormed}
+use Rattle.layout.proofs.PackedBack.{enough}
 use Rattle.block.proofs.Answers.{wrong-length, broken, untidy, unformed, taken}
 use borrow.Author.Needs.{needs}
 use Rattle.block.proofs.read.Statement.{statement}
@@ -33,8 +34,8 @@ returns-3 c =
     untidy (c .before .before .before .before .before .before .before .args .block .now) _ (c .refused3 .ensures) (c .before .before .before .before .before .if1 .left) (sym (c .before .before .before .before .is-intact .ensures) ∙ not-false _ (c .before .before .before .if2 .left))
     (sym (c .before .before .is-tidy .ensures) ∙ not-true _ (c .before .if3 .taken))
 
-unpack-requires : tie.Need-unpack-requires
-unpack-requires c κs = search needs
+unpacked-requires : tie.Need-unpacked-requires
+unpacked-requires c κs = search needs
 
 well-formed-requires : tie.Need-well-formed-requires
 well-formed-requires c κs = search needs
@@ -45,13 +46,13 @@ refused-requires-4 c κs = search needs
 returns-4 : tie.Need-returns-4
 returns-4 c =
     unformed (c .before .before .before .before .before .before .before .before .before .before .args .block .now) _ (c .refused4 .ensures) (c .before .before .before .before .before .before .before .before .if1 .left) (sym (c .before .before .before .before .before .before .before .is-intact .ensures) ∙ not-false _ (c .before .before .before .before .before .before .if2 .left))
-    (sym (c .before .before .well-formed .ensures ∙ ap wellFormed (c .before .before .before .unpack .ensures)) ∙ not-true _ (c .before .if4 .taken))
+    (sym (c .before .before .well-formed .ensures ∙ ap wellFormed (c .before .before .before .unpacked .ensures ∙ enough _ (search needs))) ∙ not-true _ (c .before .if4 .taken))
 
 returns-5 : tie.Need-returns-5
 returns-5 c =
-    taken (c .before .before .before .before .before .before .before .before .before .args .block .now) _ (c .before .before .unpack .ensures) (c .before .before .before .before .before .before .before .if1 .left) (sym (c .before .before .before .before .before .before .is-intact .ensures) ∙ not-false _ (c .before .before .before .before .before .if2 .left))
+    taken (c .before .before .before .before .before .before .before .before .before .args .block .now) _ (c .before .before .unpacked .ensures ∙ enough _ (search needs)) (c .before .before .before .before .before .before .before .if1 .left) (sym (c .before .before .before .before .before .before .is-intact .ensures) ∙ not-false _ (c .before .before .before .before .before .if2 .left))
     (sym (c .before .before .before .before .is-tidy .ensures) ∙ not-false _ (c .before .before .before .if3 .left))
-    (sym (c .before .well-formed .ensures ∙ ap wellFormed (c .before .before .unpack .ensures)) ∙ not-false _ (c .if4 .left))
+    (sym (c .before .well-formed .ensures ∙ ap wellFormed (c .before .before .unpacked .ensures ∙ enough _ (search needs))) ∙ not-false _ (c .if4 .left))
 
 pub read-spec : {M : Type 1} → statement M
 read-spec =
@@ -65,7 +66,7 @@ read-spec =
     is-tidy-requires
     refused-requires-3
     returns-3
-    unpack-requires
+    unpacked-requires
     well-formed-requires
     refused-requires-4
     returns-4

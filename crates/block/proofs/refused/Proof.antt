@@ -1,4 +1,4 @@
-use Rattle.condition.specs.Answers.{powerUpAnswer}
+use Rattle.condition.specs.Condition.{powerUpAnswer}
 use borrow.Author.Needs.{needs}
 use Rattle.block.proofs.refused.Statement.{statement}
 use Rattle.block.proofs.refused.Tie as tie

@@ -3,8 +3,8 @@ use mathlib.Core.List.{List}
 use Prim.Native.Nat.{ℕ}
 use Rattle.condition.specs.Condition.{wellFormed}
 use Rattle.condition.proofs.Good.{Sized}
-use Rattle.block.specs.Layout.{conditionIn}
-use Rattle.block.proofs.PackedBack.{packed-back}
+use Rattle.layout.specs.Layout.{conditionIn}
+use Rattle.layout.proofs.PackedBack.{packed-back, enough}
 use Rattle.inplace.proofs.Carrying.{carries}
 use borrow.Author.Needs.{needs}
 use Rattle.inplace.proofs.carry_in.Statement.{statement}
@@ -24,15 +24,18 @@ run-in-requires c κs =
     let a = c .before .before .before in
     (search needs, ap (λ (s : List ℕ). wellFormed (conditionIn s)) (c .before .packed .ensures) ∙ ap wellFormed (packed-back (a .args .c) (sized a)) ∙ a .pre .0, search needs)
 
+slice-aggregate-unpacked : tie.Need-slice-aggregate-unpacked
+slice-aggregate-unpacked c = search needs
+
 unpacked-requires : tie.Need-unpacked-requires
 unpacked-requires c κs = search needs
 
 returns : tie.Need-returns
 returns c =
     let a = c .before .before .before .before .before .before .before in
-    carries _ _ _ _ _ _ _ (sized a) (c .before .before .before .before .before .packed .ensures) (c .unpacked .ensures) (c .before .before .before .run-in .ensures)
+    carries _ _ _ _ _ _ _ (sized a) (c .before .before .before .before .before .packed .ensures) (c .unpacked .ensures ∙ enough _ (search needs)) (c .before .before .before .run-in .ensures)
 
 pub carry-in-spec : {M : Type 1} → statement M
 carry-in-spec =
     tie.close
-    (tie.spec packed-requires slice-aggregate-run-in run-in-requires unpacked-requires returns)
+    (tie.spec packed-requires slice-aggregate-run-in run-in-requires slice-aggregate-unpacked unpacked-requires returns)

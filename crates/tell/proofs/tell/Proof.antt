@@ -1,4 +1,4 @@
-use Rattle.condition.specs.Answers.{powerUpAnswer}
+use Rattle.condition.specs.Condition.{powerUpAnswer}
 use borrow.Author.Needs.{needs}
 use Rattle.tell.proofs.tell.Statement.{statement}
 use Rattle.tell.proofs.tell.Tie as tie

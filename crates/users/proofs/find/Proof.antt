@@ -35,7 +35,7 @@ returns c =
     let l = c .before .before .before .loop in
     let n = c .before .before .before .before .limit .result in
     let e : n - l .k ≡ suc (n - (l .k + 1)) = omega arith in
-    rw (← l .inv .1, e) (search (eq-eqb, ne-eqb))
+    rw (← l .inv .1, e) (search eq-eqb)
 
 add-k : tie.Need-add-k Inv-loop μ-loop
 add-k c = omega arith
@@ -48,7 +48,7 @@ loop-again c =
     let l = c .before .before .before .loop in
     let n = c .before .before .before .before .limit .result in
     let e : n - l .k ≡ suc (n - (l .k + 1)) = omega arith in
-    (omega arith, rw (← l .inv .1, e) (search (eq-eqb, ne-eqb)), l .inv .2)
+    (omega arith, rw (← l .inv .1, e) (search ne-eqb), l .inv .2)
 
 returns-2 : tie.Need-returns-2 Inv-loop μ-loop
 returns-2 c =

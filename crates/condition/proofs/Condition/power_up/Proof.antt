@@ -1,4 +1,4 @@
-use Rattle.condition.specs.Answers.{powerUpAnswer}
+use Rattle.condition.specs.Condition.{powerUpAnswer}
 use borrow.Author.Tests.{le-leb, lt-leb}
 use borrow.Author.Needs.{needs}
 use Rattle.condition.proofs.Condition.power_up.Statement.{statement}

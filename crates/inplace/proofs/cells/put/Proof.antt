@@ -1,7 +1,7 @@
 use Prim.Native.Nat.{ℕ}
 use mathlib.Core.List.{List}
 use lib.ListN.{getD, set}
-use Rattle.block.specs.Layout.{conditionIn}
+use Rattle.layout.specs.Layout.{conditionIn}
 use Rattle.inplace.proofs.InPlace.{cells-by}
 use borrow.Author.Needs.{needs}
 use Rattle.inplace.proofs.cells.put.Statement.{statement}

@@ -1,7 +1,7 @@
 use lib.ListN.{getD}
 use Rattle.row.specs.Row.{scrolled}
 use Rattle.condition.specs.Bytes.{scrollOf}
-use Rattle.block.specs.Layout.{conditionIn}
+use Rattle.layout.specs.Layout.{conditionIn}
 use Rattle.inplace.proofs.InPlace.{pictures-by}
 use borrow.Author.Needs.{needs}
 use Rattle.inplace.proofs.cells.scroll.Statement.{statement}

@@ -1,6 +1,6 @@
 use lib.ListN.{getD}
 use Rattle.row.specs.Row.{lineStart, shifted}
-use Rattle.block.specs.Layout.{conditionIn}
+use Rattle.layout.specs.Layout.{conditionIn}
 use Rattle.inplace.proofs.InPlace.{pictures-by}
 use borrow.Author.Needs.{needs}
 use Rattle.inplace.proofs.cells.shift.Statement.{statement}

@@ -1,5 +1,5 @@
 use Rattle.users.specs.Users.{isUser}
-use Rattle.block.specs.Layout.{conditionIn}
+use Rattle.layout.specs.Layout.{conditionIn}
 use borrow.Author.Needs.{needs}
 use Rattle.inplace.proofs.chars.is_user.Statement.{statement}
 use Rattle.inplace.proofs.chars.is_user.Tie as tie

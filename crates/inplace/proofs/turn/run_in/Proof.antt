@@ -3,7 +3,7 @@ use mathlib.Core.Path.{_≡_}
 use native.Mathlib.Omega.{arith}
 use borrow.Author.Needs.{needs}
 use lib.ListN.{length}
-use Rattle.block.specs.Layout.{conditionIn}
+use Rattle.layout.specs.Layout.{conditionIn}
 use Rattle.inplace.proofs.Running.{Going, going-starts, going-place, going-turns, going-ends, step-most}
 use Rattle.inplace.proofs.turn.run_in.Statement.{statement}
 use Rattle.inplace.proofs.turn.run_in.Tie as tie

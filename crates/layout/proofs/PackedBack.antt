@@ -1,0 +1,120 @@
+-- A condition packed into bytes, and unpacked again.
+use Prim.Native.Nat.{ℕ, zero, suc, _≤_, _<_}
+use mathlib.Core.Path.{_≡_, refl, ap, sym, _∙_}
+use mathlib.Core.Bool.{Bool, true, false}
+use mathlib.Core.List.{List, [], _∷_, _++_, append-assoc, append-nil}
+use native.Mathlib.Omega.{arith}
+use lib.Dec.{eqb}
+use lib.ListN.{length, getD, take, drop, replicate, length-append}
+use lib.Seq.{take-at, drop-at, drop-drop, ext-getD}
+use borrow.Author.Tests.{ne-eqb, lt-ltb, le-ltb}
+use Rattle.row.specs.Row.{laid}
+use Rattle.condition.specs.declared.Condition.{Condition}
+use Rattle.condition.specs.declared.Pending.{Pending}
+use Rattle.condition.specs.declared.Pending.the-variants.{Nothing, Escape, Position, Luminance, Speed, UserCode, UserData}
+use Rattle.condition.specs.Condition.{heldOf, powerUp}
+use Rattle.layout.specs.Layout.{flag, kindOf, codeOf, headOf, packedOf, pendingOf, conditionIn, unpackedOf}
+use Rattle.condition.proofs.Good.{Sized}
+use Rattle.layout.proofs.Parts.{copied}
+
+-- bytes that hold a condition, and bytes that are too few
+pub enough : (s : List ℕ) → 200 ≤ length s → unpackedOf s ≡ conditionIn s
+unfolding unpackedOf
+enough s h = rw (le-ltb _ _ h)
+
+pub too-few : (s : List ℕ) → length s < 200 → unpackedOf s ≡ powerUp 0
+unfolding unpackedOf
+too-few s h = rw (lt-ltb _ _ h)
+
+pub length-packed : (c : Condition) → Sized c → length (packedOf c) ≡ 200
+unfolding packedOf headOf
+length-packed c z = simp (length-append, z .codes-40, z .fonts-40, z .users-96)
+
+-- the parts of the first 200 bytes, copied out, and the fields
+pub unpacking : (s x y w h : List ℕ) (p : Pending) → 200 ≤ length s → x ≡ laid (take 40 (drop 24 s)) (replicate 40 0)
+    → y ≡ laid (take 40 (drop 64 s)) (replicate 40 0) → w ≡ laid (take 96 (drop 104 s)) (replicate 96 0)
+    → h ≡ laid (take 4 (drop 16 s)) (replicate 4 0) → p ≡ pendingOf (getD s 13 0) (getD s 14 0) (getD s 15 0)
+    → _≡_ {A = Condition}
+    (record {
+      codes = x;
+      fonts = y;
+      cursor = getD s 3 0;
+      mode = getD s 4 0;
+      scrolling = eqb (getD s 5 0) 1;
+      shown = eqb (getD s 6 0) 1;
+      font = getD s 7 0;
+      link = getD s 8 0;
+      euro = eqb (getD s 9 0) 1;
+      luminance = getD s 10 0;
+      speed = getD s 11 0;
+      flickerless = eqb (getD s 12 0) 1;
+      users = record { bytes = w; count = getD s 20 0 };
+      pending = p;
+      held = h;
+    })
+    (conditionIn s)
+unfolding conditionIn
+unpacking s x y w h p l ex ey ew eh ep =
+    rw (ex, ey, ew, eh, ep, copied s 24 40 (omega arith), copied s 64 40 (omega arith), copied s 104 96 (omega arith), copied s 16 4 (omega arith))
+
+-- a kind that is none of 0 to 5
+pub above : (k a n : ℕ) → 5 < k → UserData a n ≡ pendingOf k a n
+above k a n h =
+    rw (ne-eqb k 0 (λ e. omega arith), ne-eqb k 1 (λ e. omega arith), ne-eqb k 2 (λ e. omega arith), ne-eqb k 3 (λ e. omega arith), ne-eqb k 4 (λ e. omega arith), ne-eqb k 5 (λ e. omega arith))
+
+pending-back : (p : Pending) → pendingOf (kindOf p) (codeOf p) (heldOf p) ≡ p
+pending-back Nothing = refl
+pending-back Escape = refl
+pending-back Position = refl
+pending-back Luminance = refl
+pending-back Speed = refl
+pending-back UserCode = refl
+pending-back (UserData x n) = refl
+
+flag-back : (b : Bool) → eqb (flag b) 1 ≡ b
+flag-back true = refl
+flag-back false = refl
+
+four : (i : ℕ) → i < 4 → (h : List ℕ) → getD (getD h 0 0 ∷ getD h 1 0 ∷ getD h 2 0 ∷ getD h 3 0 ∷ []) i 0 ≡ getD h i 0
+four zero lt h = refl
+four (suc zero) lt h = refl
+four (suc (suc zero)) lt h = refl
+four (suc (suc (suc zero))) lt h = refl
+four (suc (suc (suc (suc i)))) lt h = omega arith
+
+held-back : (h : List ℕ) → length h ≡ 4 → getD h 0 0 ∷ getD h 1 0 ∷ getD h 2 0 ∷ getD h 3 0 ∷ [] ≡ h
+held-back h e = ext-getD 0 _ h (sym e) (λ i lt. four i lt h)
+
+-- whatever stands behind them, the packed bytes are read as the condition that they were packed from
+pub back-with : (c : Condition) (r : List ℕ) → Sized c → conditionIn (packedOf c ++ r) ≡ c
+unfolding conditionIn packedOf headOf
+back-with c r z =
+    let s : List ℕ = packedOf c ++ r in
+    let r₃ : List ℕ = c .users .bytes ++ r in
+    let r₂ : List ℕ = c .fonts ++ r₃ in
+    let e₁ : drop 24 s ≡ c .codes ++ r₂ = simp append-assoc in
+    let e₂ : drop 64 s ≡ r₂ = sym (drop-drop 40 24 s) ∙ ap (drop 40) e₁ ∙ drop-at (c .codes) r₂ 40 (z .codes-40) in
+    let e₃ : drop 104 s ≡ r₃ = sym (drop-drop 40 64 s) ∙ ap (drop 40) e₂ ∙ drop-at (c .fonts) r₃ 40 (z .fonts-40) in
+    let codes = ap (take 40) e₁ ∙ take-at (c .codes) r₂ 40 (z .codes-40) in
+    let fonts = ap (take 40) e₂ ∙ take-at (c .fonts) r₃ 40 (z .fonts-40) in
+    let users = ap (take 96) e₃ ∙ take-at (c .users .bytes) r 96 (z .users-96) in
+    λ i. record {
+      codes = codes i;
+      fonts = fonts i;
+      cursor = c .cursor;
+      mode = c .mode;
+      scrolling = flag-back (c .scrolling) i;
+      shown = flag-back (c .shown) i;
+      font = c .font;
+      link = c .link;
+      euro = flag-back (c .euro) i;
+      luminance = c .luminance;
+      speed = c .speed;
+      flickerless = flag-back (c .flickerless) i;
+      users = record { bytes = users i; count = c .users .count };
+      pending = pending-back (c .pending) i;
+      held = held-back (c .held) (z .held-4) i;
+    }
+
+pub packed-back : (c : Condition) → Sized c → conditionIn (packedOf c) ≡ c
+packed-back c z = ap conditionIn (sym (append-nil (packedOf c))) ∙ back-with c [] z

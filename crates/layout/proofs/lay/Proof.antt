@@ -1,0 +1,96 @@
+use mathlib.Core.Path.{refl}
+use mathlib.Core.List.{_++_}
+use lib.ListN.{take, drop}
+use Rattle.layout.proofs.Parts.{four-parts}
+use borrow.Author.Needs.{needs}
+use Rattle.layout.proofs.lay.Statement.{statement}
+use Rattle.layout.proofs.lay.Tie as tie
+
+sub-copy : tie.Need-sub-copy
+sub-copy c = search needs
+
+part-copy-start : tie.Need-part-copy-start
+part-copy-start c = search needs
+
+part-copy-end : tie.Need-part-copy-end
+part-copy-end c = search needs
+
+copy-requires : tie.Need-copy-requires
+copy-requires c κs = search needs
+
+sub-copy-2 : tie.Need-sub-copy-2
+sub-copy-2 c = search needs
+
+part-copy-start-2 : tie.Need-part-copy-start-2
+part-copy-start-2 c = search needs
+
+part-copy-end-2 : tie.Need-part-copy-end-2
+part-copy-end-2 c = search needs
+
+copy-requires-2 : tie.Need-copy-requires-2
+copy-requires-2 c κs = search needs
+
+sub-copy-3 : tie.Need-sub-copy-3
+sub-copy-3 c = search needs
+
+part-copy-start-3 : tie.Need-part-copy-start-3
+part-copy-start-3 c = search needs
+
+part-copy-end-3 : tie.Need-part-copy-end-3
+part-copy-end-3 c = search needs
+
+copy-requires-3 : tie.Need-copy-requires-3
+copy-requires-3 c κs = search needs
+
+sub-copy-4 : tie.Need-sub-copy-4
+sub-copy-4 c = search needs
+
+part-copy-start-4 : tie.Need-part-copy-start-4
+part-copy-start-4 c = search needs
+
+part-copy-end-4 : tie.Need-part-copy-end-4
+part-copy-end-4 c = search needs
+
+copy-requires-4 : tie.Need-copy-requires-4
+copy-requires-4 c κs = search needs
+
+same-length : tie.Need-same-length
+same-length c = search needs
+
+returns : tie.Need-returns
+returns c =
+    let a = c .before .before .before .before .before .before .before .before .before .before .before .before .before .before .before .before .before .before .before .before .before .args in
+    let s = a .s .now in
+    let x = c .before .before .before .before .before .before .before .before .before .before .before .before .before .before .before .before .before .copy .last .0 in
+    let y = c .before .before .before .before .before .before .before .before .before .before .before .before .copy2 .last .0 in
+    let z = c .before .before .before .before .before .before .before .copy3 .last .0 in
+    let v = c .before .before .copy4 .last .0 in
+    let s₁ = x ++ drop 24 s in
+    let s₂ = take 24 s₁ ++ (y ++ drop 40 (drop 24 s₁)) in
+    let s₃ = take 64 s₂ ++ (z ++ drop 40 (drop 64 s₂)) in
+    let s₄ = take 104 s₃ ++ (v ++ drop 96 (drop 104 s₃)) in
+    four-parts s (a .first .now) (a .codes .now) (a .fonts .now) (a .chars .now) x y z v (search needs) (search needs) (search needs) (search needs) (search needs)
+    s₁ s₂ s₃ s₄ (c .before .before .before .before .before .before .before .before .before .before .before .before .before .before .before .before .before .copy .ensures) refl (c .before .before .before .before .before .before .before .before .before .before .before .before .copy2 .ensures) refl (c .before .before .before .before .before .before .before .copy3 .ensures) refl (c .before .before .copy4 .ensures) refl
+
+pub lay-spec : {M : Type 1} → statement M
+lay-spec =
+    tie.close
+    (tie.spec
+    sub-copy
+    part-copy-start
+    part-copy-end
+    copy-requires
+    sub-copy-2
+    part-copy-start-2
+    part-copy-end-2
+    copy-requires-2
+    sub-copy-3
+    part-copy-start-3
+    part-copy-end-3
+    copy-requires-3
+    sub-copy-4
+    part-copy-start-4
+    part-copy-end-4
+    copy-requires-4
+    same-length
+    returns)
