@@ -47,7 +47,7 @@ install_packages() {
     case "$*" in *:amd64*) dpkg --add-architecture amd64 || return 1 ;; esac
     echo "tests: installing $*" >&2
     # shellcheck disable=SC2048,SC2086
-    apt-get update -q >&2 && DEBIAN_FRONTEND=noninteractive apt-get install -y -q $* >&2
+    apt-get update -q >&2 && DEBIAN_FRONTEND=noninteractive apt-get install -y -q --no-install-recommends $* >&2
 }
 
 if ! tools_work; then
