@@ -12,7 +12,7 @@
    There is no state outside the buffers and no allocation: calls on different buffers may run at the
    same time on any threads. A buffer that is only read (bytes, codes, fonts, the block of a plan) may be
    shared by such calls. Stack need on x86-64, memcpy and memset not counted: sign_run 2,056 bytes,
-   sign_plan 2,528, sign_plan_fonts 2,512, sign_power_up 1,512.
+   sign_plan 2,544, sign_plan_fonts 2,528, sign_power_up 1,512.
 
    Refusals, the lowest that holds:
      1  a length is wrong: block not 512, tally not 12, codes not 40, fonts not 40

@@ -1,7 +1,6 @@
 // A module's condition: what it holds, when it is well formed, and power-up.
 ghost use mathlib.Core.Path.{_≡_};
-ghost use mathlib.Core.Bool.{true};
-ghost use Prim.Native.Nat.{_+_, _*_, _≤_};
+ghost use Prim.Native.Nat.{_*_, _≤_};
 ghost use lib.ListN.{length};
 ghost use Rattle.condition.specs.Condition.{idle, heldOf, allUpTo, absent, usersGood, pendingGood, numbersGood, scrollGood, wellFormed, powerUp, powerUpAnswer};
 use users::Users;
