@@ -1,7 +1,7 @@
-/* A host program to start from. It keeps one sign, puts two pictures on it with the fewest bytes, prints
-   what the sign then shows, and handles a refusal.
+/* The smallest host: it keeps one sign, puts pictures on it with the fewest bytes, prints what the glass
+   then shows, and looks at every answer. A host that survives a loss of power is station.c.
 
-   Build it after `make lib`:  cc -Iinclude -o host examples/host.c target/staticlib/libsign.a           */
+   Build it after `make lib`:  cc -Iinclude -o host examples/host.c target/staticlib/libsign.a          */
 
 #include <stdio.h>
 #include <string.h>
@@ -11,15 +11,24 @@
 static uint8_t block[SIGN_BLOCK];
 static uint8_t tally[SIGN_TALLY];
 
-/* Here the bytes would go to the wire. */
-static void to_the_wire(const uint8_t *bytes, size_t n) {
+/* Here the bytes would go to the wire. Answers 0, or -1 where they could not be sent. */
+static int to_the_wire(const uint8_t *bytes, size_t n) {
     printf("sent %zu bytes:", n);
     for (size_t i = 0; i < n; i++) printf(" %02X", bytes[i]);
-    printf("\n");
+    return printf("\n") < 0 ? -1 : 0;
 }
 
-/* Puts two lines of text on the sign and the cursor to a place. Answers 0 or the refusal. */
-static uint32_t put(const char *top, const char *bottom, uint32_t cursor) {
+/* Runs bytes on our copy and sends them, in this order: bytes that the copy refuses must not reach the
+   module, which would carry them out. Answers NULL, or what went wrong. */
+static const char *run_and_send(const uint8_t *bytes, size_t n) {
+    uint32_t refusal = sign_run(block, sizeof block, tally, sizeof tally, bytes, n);
+    if (refusal != SIGN_ACCEPTED) return sign_refusal_text(refusal);
+    if (to_the_wire(bytes, n) != 0) return "the wire failed: the glass is in doubt (docs/HOST.md, Recovery)";
+    return NULL;
+}
+
+/* Puts two lines of text on the sign and the cursor to a place. Answers NULL, or what went wrong. */
+static const char *put(const char *top, const char *bottom, uint32_t cursor) {
     /* the wanted picture: 40 codes, blanks where the text ends */
     uint8_t codes[SIGN_CELLS];
     memset(codes, ' ', sizeof codes);
@@ -29,45 +38,56 @@ static uint32_t put(const char *top, const char *bottom, uint32_t cursor) {
     /* plan it; the answer is a length, or 256 and a refusal */
     uint8_t plan[SIGN_ROOM];
     uint32_t n = sign_plan(block, sizeof block, codes, sizeof codes, cursor, plan, sizeof plan);
-    if (n >= SIGN_REFUSED) return n - SIGN_REFUSED;
-
-    /* send it, and bring the block and the tally up to date */
-    to_the_wire(plan, n);
-    return sign_run(block, sizeof block, tally, sizeof tally, plan, n);
+    if (n >= SIGN_REFUSED) return sign_refusal_text(n - SIGN_REFUSED);
+    return run_and_send(plan, n);
 }
 
-/* What the sign shows: the codes stand in the block. (Codes above 7Eh depend on the font.) */
+/* What one cell of the glass shows, as far as a terminal can. */
+static int drawn(uint32_t position) {
+    uint32_t shows = sign_view(block, sizeof block, position);
+    if (shows >= SIGN_ASKED_REFUSED) return '!';
+    if (shows == SIGN_BLANK) return ' ';
+    if (shows == SIGN_EURO) return 'E';
+    if (shows < SIGN_EURO) return '#'; /* a user character: sign_dot has its dots */
+    int code = (int)(shows & 0xFF);    /* the fonts have the same ASCII, but for 5Ch, 7Eh and 7Fh */
+    return code <= 0x7E ? code : '?';
+}
+
 static void print_sign(void) {
-    for (int line = 0; line < 2; line++) {
+    for (uint32_t line = 0; line < 2; line++) {
         printf("|");
-        for (int column = 0; column < 20; column++) {
-            uint8_t code = block[SIGN_CODES_AT + 20 * line + column];
-            putchar(code >= 0x20 && code <= 0x7E ? code : '?');
-        }
+        for (uint32_t column = 0; column < 20; column++) putchar(drawn(20 * line + column));
         printf("|\n");
     }
 }
 
-static unsigned long number(const uint8_t *p) {
-    return p[0] | (unsigned long)p[1] << 8 | (unsigned long)p[2] << 16 | (unsigned long)p[3] << 24;
+static int failed(const char *what) {
+    if (what != NULL) printf("refused: %s\n", what);
+    return what != NULL;
 }
 
 int main(void) {
-    /* a sign that was just switched on, International font; the tally is 0 */
-    if (sign_power_up(0, block, sizeof block) != 0) return 1;
+    /* a sign that was just switched on, link J6 open; the tally is 0 */
+    if (sign_power_up(0, block, sizeof block) != SIGN_ACCEPTED) return 1;
 
-    if (put("Welcome aboard", "Gate 4 opens 10:30", 0) != 0) return 1;
+    if (failed(put("Welcome aboard", "Gate 4 opens 10:30", 0))) return 1;
     print_sign();
 
     /* only what differs is written */
-    if (put("Welcome aboard", "Gate 4 opens 10:45", 0) != 0) return 1;
+    if (failed(put("Welcome aboard", "Gate 4 opens 10:45", 0))) return 1;
     print_sign();
 
-    /* there is no place 40: the plan is refused, and nothing changed */
-    uint32_t refusal = put("Welcome aboard", "Gate 7 opens 10:45", 40);
-    if (refusal != 0) printf("refused %u\n", (unsigned)refusal);
+    /* there is no place 40: the plan is refused, nothing changed, and nothing was sent */
+    if (!failed(put("Welcome aboard", "Gate 7 opens 10:45", 40))) return 1;
     print_sign();
 
-    printf("bytes %lu busy %lu us\n", number(tally), number(tally + 4));
+    /* an arrow as a user character on 01h (docs/HOST.md draws it), then a picture that shows it */
+    static const uint8_t arrow[] = {0x1B, 0x43, 0x01, 0x80, 0xA0, 0x8F, 0x08, 0x00};
+    if (failed(run_and_send(arrow, sizeof arrow))) return 1;
+    if (failed(put("Welcome aboard", "Gate 4 \x01\x01\x01", 0))) return 1;
+    print_sign();
+
+    printf("bytes %lu, busy %lu us\n", (unsigned long)sign_tally_number(tally, SIGN_BYTES),
+           (unsigned long)sign_tally_number(tally, SIGN_BUSY));
     return 0;
 }

@@ -1,8 +1,14 @@
-/* sign.h: a 20x2 VFD sign (module CU20029-KTW220A) for a C host. Link with libsign.a; see examples/host.c.
+/* sign.h: a 20x2 VFD sign (module CU20029-KTW220A) for a C or C++ host. Link with libsign.a (x86-64).
+   examples/host.c is the smallest host, examples/station.c one that survives a loss of power, and
+   docs/HOST.md says what to do in which order, and what to do about each refusal.
 
    The sign is a block of 512 bytes that the host keeps and lends. sign_power_up makes one, sign_run does
    to it what the module does with bytes that are sent to it, and sign_plan works out the fewest bytes
    that change what it shows into a wanted picture; sign_plan_fonts takes a font for each cell as well.
+   sign_view, sign_dot, sign_underline and sign_lit say what the glass shows.
+
+   Run first, send afterwards: bytes that sign_run refuses must not go to the wire, because the module
+   would carry them out and the block would not follow.
 
    Every call takes any bytes: nothing in a buffer can make it fail otherwise than by a refusal, and a
    refused call changes nothing that was lent to it. It looks at a buffer only within the length given.
@@ -10,23 +16,8 @@
    with length 0), and the buffers of one call do not overlap.
 
    There is no state outside the buffers and no allocation: calls on different buffers may run at the
-   same time on any threads. A buffer that is only read (bytes, codes, fonts, the block of a plan) may be
-   shared by such calls. Stack need on x86-64, memcpy and memset not counted: sign_run 2,056 bytes,
-   sign_plan 2,544, sign_plan_fonts 2,528, sign_power_up 1,512.
-
-   Refusals, the lowest that holds:
-     1  a length is wrong: block not 512, tally not 12, codes not 40, fonts not 40
-     2  the block's bytes 0-2 or its check differ: not a block, or a damaged one
-     3  the block is no condition that a sign can be in, a tally number is above 4,000,000,000,
-        the asked cursor is above 39, or a font is above 1
-     4  more than 32,768 bytes in one run
-     5  a tally number would pass 4,000,000,000
-     6  plan: a command is half received
-     7  plan: the mode is not 1
-     8  plan: a user character stands on 08h, 09h, 0Ah, 0Ch, 0Dh or 1Bh;
-        sign_plan_fonts: or on 18h, 19h or 1Ah
-     9  plan: a wanted code below 20h has no user character
-    10  the output is under 44 bytes for sign_plan, 104 for sign_plan_fonts, 512 for a block             */
+   same time on any threads. A buffer that is only read (bytes, codes, fonts, the block of a plan or a
+   question) may be shared by such calls.                                                               */
 
 #ifndef SIGN_H
 #define SIGN_H
@@ -38,34 +29,82 @@
 extern "C" {
 #endif
 
+/* The version of the library that this header belongs to: 1.1. */
+#define SIGN_VERSION_MAJOR 1
+#define SIGN_VERSION_MINOR 1
+
 #define SIGN_BLOCK      512   /* bytes of a block */
 #define SIGN_TALLY      12    /* bytes of a tally */
 #define SIGN_CELLS      40    /* cells: 0 to 19 top line, 20 to 39 bottom line */
 #define SIGN_ROOM       44    /* bytes that sign_plan wants room for */
 #define SIGN_FONTS_ROOM 104   /* bytes that sign_plan_fonts wants room for */
 #define SIGN_MOST       32768 /* most bytes in one run */
-#define SIGN_REFUSED    256   /* a plan's refusal is answered as this plus its number */
 
-/* Places in a block that a host may want to read (never write: the check would no longer fit). */
-#define SIGN_CURSOR_AT 3   /* the cursor, 0 to 39 */
-#define SIGN_CODES_AT  24  /* the 40 codes */
-#define SIGN_FONTS_AT  64  /* their fonts, 0 International or 1 Katakana */
+/* Refusals: the lowest that holds is given. sign_run and sign_power_up answer the number itself, a plan
+   256 plus the number, a question 65,536 plus the number. */
+enum sign_refusal {
+    SIGN_ACCEPTED      = 0,
+    SIGN_WRONG_LENGTH  = 1,  /* block not 512 bytes, tally not 12, codes not 40, fonts not 40 */
+    SIGN_DAMAGED       = 2,  /* the block's bytes 0-2 or its check differ: not a block, or a damaged one */
+    SIGN_OUT_OF_RANGE  = 3,  /* the block is no condition that a sign can be in; a tally number is above
+                                4,000,000,000; the asked cursor or position is above 39; a font is above 1;
+                                a dot is not 1 to 35; no user character has the asked code */
+    SIGN_TOO_LONG      = 4,  /* more than 32,768 bytes in one run */
+    SIGN_TALLY_FULL    = 5,  /* a tally number would pass 4,000,000,000 */
+    SIGN_HALF_RECEIVED = 6,  /* plan: a command is half received */
+    SIGN_WRONG_MODE    = 7,  /* plan: the mode is not 1 */
+    SIGN_USER_ON_MOVE  = 8,  /* plan: a user character stands on 08h, 09h, 0Ah, 0Ch, 0Dh or 1Bh;
+                                sign_plan_fonts: or on 18h, 19h or 1Ah */
+    SIGN_NO_CHARACTER  = 9,  /* plan: a wanted code below 20h has no user character */
+    SIGN_NO_ROOM       = 10  /* the output is under 44 bytes for sign_plan, 104 for sign_plan_fonts,
+                                512 for a block */
+};
+#define SIGN_REFUSED       256   /* a plan's refusal is answered as this plus its number */
+#define SIGN_ASKED_REFUSED 65536 /* a question's refusal is answered as this plus its number */
+
+/* Places in a block that a host may read (never write: the check would no longer fit). */
+#define SIGN_CURSOR_AT       3   /* the cursor, 0 to 39 */
+#define SIGN_MODE_AT         4   /* 1 DC1, 2 DC2, 3 DC3 */
+#define SIGN_SCROLL_ON_AT    5   /* 1: in mode 3 the next write at column 19 shifts the line */
+#define SIGN_SHOWN_AT        6   /* 1: the cursor is shown */
+#define SIGN_FONT_AT         7   /* the selected font, 0 International or 1 Katakana */
+#define SIGN_DEFAULT_FONT_AT 8   /* the default font, by link J6 */
+#define SIGN_EURO_AT         9   /* 1: ADh in font 0 is the Euro mark */
+#define SIGN_LUMINANCE_AT    10  /* 0 to 3: 25, 50, 75, 100 % */
+#define SIGN_SPEED_AT        11  /* the blink speed, 0 to 255, in 30 ms */
+#define SIGN_FLICKERLESS_AT  12  /* 1: flickerless writing is on */
+#define SIGN_HALF_AT         13  /* the half-received command: enum sign_half */
+#define SIGN_HALF_CODE_AT    14  /* the code that user data is for */
+#define SIGN_HELD_COUNT_AT   15  /* how many bytes of user data are held, 0 to 4 */
+#define SIGN_HELD_AT         16  /* those bytes */
+#define SIGN_USER_COUNT_AT   20  /* how many user characters are held, 0 to 16 */
+#define SIGN_CODES_AT        24  /* the codes of the 40 cells */
+#define SIGN_FONTS_AT        64  /* their fonts, 0 International or 1 Katakana */
+#define SIGN_USERS_AT        104 /* the user characters, oldest first, six bytes each: code, d1 to d5 */
+#define SIGN_USER_BYTES      6
+
+/* What is half received (SIGN_HALF_AT). docs/HOST.md says which bytes end each. */
+enum sign_half {
+    SIGN_HALF_NONE = 0, SIGN_HALF_ESC = 1, SIGN_HALF_POSITION = 2, SIGN_HALF_LUMINANCE = 3,
+    SIGN_HALF_SPEED = 4, SIGN_HALF_USER_CODE = 5, SIGN_HALF_USER_DATA = 6
+};
 
 /* Writes the block of a sign that was just switched on; font 0 is link J6 open, 1 is J6 linked.
    Answers 0; or 3 for another font, then 10 for less than 512 bytes. Only the first 512 bytes change. */
 uint32_t sign_power_up(uint32_t font, uint8_t *block, size_t block_len);
 
-/* Sends the bytes to the sign in turn, and adds to the tally: three numbers of four bytes, low byte
-   first: the bytes received, the microseconds that the sign is busy, and the bytes received while
-   flickerless writing was already on.
-   Answers 0, and then block and tally are up to date; or 1, 2, 3, 4 or 5, and then neither changed. */
+/* Does to the block what the module does with these bytes in turn, and adds to the tally: three numbers
+   of four bytes, low byte first: the bytes received, the microseconds that the sign is busy, and the
+   bytes received while flickerless writing was already on (sign_tally_number reads one).
+   Answers 0, and then block and tally are up to date, and the bytes are to be sent; or 1, 2, 3, 4 or 5,
+   and then neither changed, and the bytes must not be sent. */
 uint32_t sign_run(uint8_t *block, size_t block_len,
                   uint8_t *tally, size_t tally_len,
                   const uint8_t *bytes, size_t bytes_len);
 
 /* Writes to out the bytes that bring the 40 wanted codes onto the sign, each in the selected font, and the
    cursor to the asked place: at most 44, and no string of cursor moves and writes in reading order does it
-   with fewer. The block stays as it is: send the bytes, and give them to sign_run.
+   with fewer. The block stays as it is: give the bytes to sign_run, and send them where it answers 0.
    Answers how many bytes were written (0: all is there already), and nothing else of out changes;
    or 256 plus 1, 2, 3, 6, 7, 8, 9 or 10, and then out did not change. */
 uint32_t sign_plan(const uint8_t *block, size_t block_len,
@@ -82,6 +121,57 @@ uint32_t sign_plan_fonts(const uint8_t *block, size_t block_len,
                          const uint8_t *codes, size_t codes_len,
                          const uint8_t *fonts, size_t fonts_len, uint32_t cursor,
                          uint8_t *out, size_t out_len);
+
+/* What a cell shows (sign_view): one of these, plus the code (0 to 255) for a user character and for a
+   built-in one. A blank cell and the Euro mark carry no code. */
+enum sign_shows {
+    SIGN_BLANK         = 0,
+    SIGN_USER          = 256,
+    SIGN_EURO          = 512,
+    SIGN_INTERNATIONAL = 768,
+    SIGN_KATAKANA      = 1024
+};
+
+/* What the glass shows at a position, 0 to 39: enum sign_shows. Space (20h) is a built-in character.
+   Answers 65,536 plus 1, 2 or 3 where it is refused. */
+uint32_t sign_view(const uint8_t *block, size_t block_len, uint32_t position);
+
+/* Dot k, 1 to 35 by rows of five, of the user character on a code: 1 lit, 0 dark.
+   Answers 65,536 plus 1, 2 or 3 where it is refused; no code above 255 has a user character. */
+uint32_t sign_dot(const uint8_t *block, size_t block_len, uint32_t code, uint32_t k);
+
+/* The underline of the user character on a code: 1 lit, 0 dark. Refused as sign_dot. */
+uint32_t sign_underline(const uint8_t *block, size_t block_len, uint32_t code);
+
+/* How many of its 35 dots the user character on a code lights, the underline not counted. Refused as
+   sign_dot. */
+uint32_t sign_lit(const uint8_t *block, size_t block_len, uint32_t code);
+
+/* The numbers of a tally. */
+enum sign_number { SIGN_BYTES = 0, SIGN_BUSY = 1, SIGN_FLICKERLESS = 2 };
+
+static inline uint32_t sign_tally_number(const uint8_t *tally, enum sign_number which) {
+    const uint8_t *p = tally + 4 * (int)which;
+    return p[0] | (uint32_t)p[1] << 8 | (uint32_t)p[2] << 16 | (uint32_t)p[3] << 24;
+}
+
+/* A refusal in words: the number itself, without the 256 or 65,536. */
+static inline const char *sign_refusal_text(uint32_t refusal) {
+    switch (refusal) {
+    case SIGN_ACCEPTED:      return "accepted";
+    case SIGN_WRONG_LENGTH:  return "a buffer has the wrong length";
+    case SIGN_DAMAGED:       return "the block is damaged";
+    case SIGN_OUT_OF_RANGE:  return "a value is out of range, or a user character is not defined";
+    case SIGN_TOO_LONG:      return "more than 32,768 bytes in one run";
+    case SIGN_TALLY_FULL:    return "a number of the tally would pass 4,000,000,000";
+    case SIGN_HALF_RECEIVED: return "a command is half received";
+    case SIGN_WRONG_MODE:    return "the mode is not DC1";
+    case SIGN_USER_ON_MOVE:  return "a user character stands on a code that the plan needs";
+    case SIGN_NO_CHARACTER:  return "a wanted code below 20h has no user character";
+    case SIGN_NO_ROOM:       return "the output buffer is too small";
+    default:                 return "not a refusal number";
+    }
+}
 
 #ifdef __cplusplus
 }

@@ -4,7 +4,7 @@
 //!
 //! In this order: the condition; what a byte does, with its busy time; the run and its tally; what a
 //! cell shows; the block; the planner of one font; the planner of two fonts, by search; two searches that
-//! confirm the fewest bytes of both; the four host calls.
+//! confirm the fewest bytes of both; the host calls.
 #![allow(dead_code)]
 
 pub const CELLS: usize = 40;
@@ -1050,7 +1050,7 @@ impl<'a> Search<'a> {
     }
 }
 
-// ------------------------------------------------------------------------------- the four host calls
+// ------------------------------------------------------------------------------------ the host calls
 
 pub fn host_run(block: &mut [u8], tally: &mut [u8], bytes: &[u8]) -> u32 {
     if block.len() != BLOCK || tally.len() != TALLY {
@@ -1109,6 +1109,46 @@ pub fn host_power_up(font: u32, block: &mut [u8]) -> u32 {
     }
     block[..BLOCK].copy_from_slice(&Condition::power_up(font as u8).to_block());
     0
+}
+
+/// A question about the condition in a block: its value, or 65,536 plus the refusal.
+fn asked<F: FnOnce(&Condition) -> Result<u32, u32>>(block: &[u8], question: F) -> u32 {
+    match Condition::from_block(block).and_then(|c| question(&c)) {
+        Ok(value) => value,
+        Err(n) => 65_536 + n,
+    }
+}
+
+/// Only a byte is a code; nobody has a user character on another number.
+fn as_code(code: u32) -> Result<u8, u32> {
+    u8::try_from(code).map_err(|_| 3)
+}
+
+pub fn host_view(block: &[u8], position: u32) -> u32 {
+    asked(block, |c| {
+        if position > 39 {
+            return Err(3);
+        }
+        Ok(match c.shows(position as usize) {
+            Shows::Blank => 0,
+            Shows::User(code) => 256 + code as u32,
+            Shows::Euro => 512,
+            Shows::BuiltIn { code, font: 0 } => 768 + code as u32,
+            Shows::BuiltIn { code, .. } => 1024 + code as u32,
+        })
+    })
+}
+
+pub fn host_dot(block: &[u8], code: u32, k: u32) -> u32 {
+    asked(block, |c| Ok(c.dot(as_code(code)?, k as usize)? as u32))
+}
+
+pub fn host_underline(block: &[u8], code: u32) -> u32 {
+    asked(block, |c| Ok(c.underline(as_code(code)?)? as u32))
+}
+
+pub fn host_lit(block: &[u8], code: u32) -> u32 {
+    asked(block, |c| Ok(c.lit(as_code(code)?)? as u32))
 }
 
 // ----------------------------------------------------------------------------- what `show` prints

@@ -1,4 +1,4 @@
-//! The product's four C functions (include/sign.h), on buffers with guard bytes on both sides.
+//! The product's C functions (include/sign.h), on buffers with guard bytes on both sides.
 #![allow(dead_code)]
 
 use crate::rng::Rng;
@@ -33,6 +33,10 @@ extern "C" {
         out_len: usize,
     ) -> u32;
     fn sign_power_up(font: u32, block: *mut u8, block_len: usize) -> u32;
+    fn sign_view(block: *const u8, block_len: usize, position: u32) -> u32;
+    fn sign_dot(block: *const u8, block_len: usize, code: u32, k: u32) -> u32;
+    fn sign_underline(block: *const u8, block_len: usize, code: u32) -> u32;
+    fn sign_lit(block: *const u8, block_len: usize, code: u32) -> u32;
 }
 
 pub fn run(block: &mut [u8], tally: &mut [u8], bytes: &[u8]) -> u32 {
@@ -88,6 +92,22 @@ pub fn plan_either(block: &[u8], codes: &[u8], fonts: Option<&[u8]>, cursor: u32
 
 pub fn power_up(font: u32, block: &mut [u8]) -> u32 {
     unsafe { sign_power_up(font, block.as_mut_ptr(), block.len()) }
+}
+
+pub fn view(block: &[u8], position: u32) -> u32 {
+    unsafe { sign_view(block.as_ptr(), block.len(), position) }
+}
+
+pub fn dot(block: &[u8], code: u32, k: u32) -> u32 {
+    unsafe { sign_dot(block.as_ptr(), block.len(), code, k) }
+}
+
+pub fn underline(block: &[u8], code: u32) -> u32 {
+    unsafe { sign_underline(block.as_ptr(), block.len(), code) }
+}
+
+pub fn lit(block: &[u8], code: u32) -> u32 {
+    unsafe { sign_lit(block.as_ptr(), block.len(), code) }
 }
 
 /// Bytes to lend, at any alignment, between guard bytes.

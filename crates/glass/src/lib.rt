@@ -75,16 +75,19 @@ pub fn view(c: Condition, position: u32) -> Seen
     }
 }
 
-// The user character of a code, where the condition is well formed and it is defined.
-fn lookup(c: Condition, code: u8) -> Found
+// The user character of a code, where the condition is well formed and it is defined; none has a code above 255.
+fn lookup(c: Condition, code: u32) -> Found
     ensures { λ r. ⌜ r ≡ lookupOf c code ⌝ }
 {
     if !c.well_formed() {
         return Found::Missing;
     }
+    if 255 < code {
+        return Found::Missing;
+    }
     let u = c.users;
     let bytes = u.bytes;
-    users::find(&bytes, u.count, code)
+    users::find(&bytes, u.count, code as u8)
 }
 
 fn drawn(c: Condition, place: usize) -> Character
@@ -96,7 +99,7 @@ fn drawn(c: Condition, place: usize) -> Character
 }
 
 // Dot k of a user character, asked by its code: 1 where it is lit, else 0.
-pub fn dot(c: Condition, code: u8, k: u32) -> Answer
+pub fn dot(c: Condition, code: u32, k: u32) -> Answer
     ensures { λ r. ⌜ r ≡ dotAnswer c code k ⌝ }
 {
     if k < 1 {
@@ -125,7 +128,7 @@ pub fn dot(c: Condition, code: u8, k: u32) -> Answer
 }
 
 // The underline of a user character, asked by its code.
-pub fn underline(c: Condition, code: u8) -> Answer
+pub fn underline(c: Condition, code: u32) -> Answer
     ensures { λ r. ⌜ r ≡ underlineAnswer c code ⌝ }
 {
     let Found::At(place) = lookup(c, code) else {
@@ -142,7 +145,7 @@ pub fn underline(c: Condition, code: u8) -> Answer
 }
 
 // How many of its 35 dots a user character lights, asked by its code.
-pub fn lit(c: Condition, code: u8) -> Answer
+pub fn lit(c: Condition, code: u32) -> Answer
     ensures { λ r. ⌜ r ≡ litAnswer c code ⌝ }
 {
     let Found::At(place) = lookup(c, code) else {

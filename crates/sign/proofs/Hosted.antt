@@ -34,10 +34,10 @@ use Rattle.planner.specs.Answer.{bytesBy, Promise, Plans, PlansFonts}
 use Rattle.sign.specs.Host.{tallyAt, tallyBytes, ranOf, hostRunRefusal, blockAfter, tallyAfter, HostRun, hostRefusalBy, hostAnswer, HostPromise, hostPowerUpRefusal, hostPowerUpOut, HostPowerUp}
 
 -- a reading that is refused, or accepted
-read-refused : (b : List ℕ) (g : Outcome) → ReadPromise b g → g .refusal ≡ readRefusal b
+pub read-refused : (b : List ℕ) (g : Outcome) → ReadPromise b g → g .refusal ≡ readRefusal b
 read-refused b g p = ap (λ (o : Outcome). o .refusal) (p .answer) ∙ refusal-of b
 
-read-taken : (b : List ℕ) (g : Outcome) → ReadPromise b g → g .refusal ≡ 0 → g .condition ≡ conditionIn b
+pub read-taken : (b : List ℕ) (g : Outcome) → ReadPromise b g → g .refusal ≡ 0 → g .condition ≡ conditionIn b
 read-taken b g p ok =
     ap (λ (o : Outcome). o .condition) (p .answer ∙ accepted b (sym (read-refused b g p) ∙ ok) .answer)
 

@@ -7,6 +7,8 @@ use condition::Condition;
 use interpreter::Tally;
 use planner::Planned;
 
+mod questions;
+
 fn wide(x: u8) -> u32
     ensures { λ r. ⌜ r ≡ x ⌝ }
 {

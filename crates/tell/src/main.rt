@@ -64,7 +64,7 @@ fn add_dots(out: &mut [u8], k: usize, c: Condition, code: u8) -> usize
     let mut at = k;
     let mut i: u32 = 0;
     while i < 35 {
-        let dot = glass::dot(c, code, i + 1);
+        let dot = glass::dot(c, code as u32, i + 1);
         at = lines::add_number(out, at, b"", dot.value as u64);
         i += 1;
     }
@@ -75,8 +75,8 @@ fn add_dots(out: &mut [u8], k: usize, c: Condition, code: u8) -> usize
 fn add_user(out: &mut [u8], k: usize, c: Condition, code: u8) -> usize
     ensures { λ r. ⌜ Added (now (out .entry)) k (userLine c code) (now (out .exit)) r ⌝ }
 {
-    let underline = glass::underline(c, code);
-    let lit = glass::lit(c, code);
+    let underline = glass::underline(c, code as u32);
+    let lit = glass::lit(c, code as u32);
     let first = lines::add_hex(out, k, b"user ", code);
     let second = lines::add_word(out, first, b" ");
     let third = add_dots(out, second, c, code);

@@ -1,0 +1,52 @@
+use borrow.Author.Needs.{needs}
+use Rattle.sign.proofs.questions.shown.Statement.{statement}
+use Rattle.sign.proofs.questions.shown.Tie as tie
+
+enum-told : tie.Need-enum-told
+enum-told c = search needs
+
+enum-known-s : tie.Need-enum-known-s
+enum-known-s c = search needs
+
+cast-result : tie.Need-cast-result
+cast-result c = search needs
+
+add-result : tie.Need-add-result
+add-result c = search needs
+
+enum-told-2 : tie.Need-enum-told-2
+enum-told-2 c = search needs
+
+enum-known-s-2 : tie.Need-enum-known-s-2
+enum-known-s-2 c = search needs
+
+built-in-requires : tie.Need-built-in-requires
+built-in-requires c κs = search needs
+
+returns : tie.Need-returns
+returns c = search needs
+
+returns-2 : tie.Need-returns-2
+returns-2 c = rw (c .before .s .given .1)
+
+returns-3 : tie.Need-returns-3
+returns-3 c = search needs
+
+returns-4 : tie.Need-returns-4
+returns-4 c = rw (c .built-in .ensures, c .before .before .s2 .given .1)
+
+pub shown-spec : {M : Type 1} → statement M
+shown-spec =
+    tie.close
+    (tie.spec
+    enum-told
+    enum-known-s
+    cast-result
+    add-result
+    enum-told-2
+    enum-known-s-2
+    built-in-requires
+    returns
+    returns-2
+    returns-3
+    returns-4)

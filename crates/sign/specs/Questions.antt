@@ -1,0 +1,53 @@
+-- What the C host program is told of the glass (document 01, What a cell shows): the same as reading the block and asking.
+use Prim.Native.Nat.{ℕ, _+_}
+use mathlib.Core.Bool.{cond}
+use mathlib.Core.List.{List}
+use lib.Dec.{eqb}
+use Rattle.glass.specs.declared.Shows.{Shows}
+use Rattle.glass.specs.declared.Shows.the-variants.{Blank, User, Euro, BuiltIn}
+use Rattle.glass.specs.declared.Seen.{Seen}
+use Rattle.glass.specs.declared.Answer.{Answer}
+use Rattle.glass.specs.Answers.{viewAnswer, dotAnswer, underlineAnswer, litAnswer}
+use Rattle.layout.specs.Layout.{conditionIn}
+use Rattle.block.specs.Reading.{readRefusal}
+
+-- what a cell shows, as a number: 0 blank, 256 + code a user character, 512 Euro, 768 + code built-in in font 0, 1024 + code in font 1
+abbrev pub builtIn : ℕ → ℕ → ℕ
+builtIn code font = cond (eqb font 0) (768 + code) (1024 + code)
+
+abbrev pub shownAs : Shows → ℕ
+shownAs Blank = 0
+shownAs (User code) = 256 + code
+shownAs Euro = 512
+shownAs (BuiltIn code font) = builtIn code font
+
+-- a question answers its value, or 65,536 plus the refusal
+unfoldable pub askedAs : ℕ → ℕ → ℕ
+askedAs refusal value = cond (eqb refusal 0) value (65536 + refusal)
+
+-- the refusal of the first of two that refuses, or 0
+abbrev pub earlier : ℕ → ℕ → ℕ
+earlier n m = cond (eqb n 0) m n
+
+-- 1, 2 and 3: as reading the block; 3: as the question about the condition that stands there
+unfoldable pub hostAsked : List ℕ → ℕ → ℕ → ℕ
+hostAsked b refusal value = askedAs (earlier (readRefusal b) refusal) value
+
+abbrev pub hostSeen : List ℕ → Seen → ℕ
+hostSeen b seen = hostAsked b (seen .refusal) (shownAs (seen .shows))
+
+abbrev pub hostTold : List ℕ → Answer → ℕ
+hostTold b a = hostAsked b (a .refusal) (a .value)
+
+-- what `sign_view`, `sign_dot`, `sign_underline` and `sign_lit` answer
+unfoldable pub hostView : List ℕ → ℕ → ℕ
+hostView b position = hostSeen b (viewAnswer (conditionIn b) position)
+
+unfoldable pub hostDot : List ℕ → ℕ → ℕ → ℕ
+hostDot b code k = hostTold b (dotAnswer (conditionIn b) code k)
+
+unfoldable pub hostUnderline : List ℕ → ℕ → ℕ
+hostUnderline b code = hostTold b (underlineAnswer (conditionIn b) code)
+
+unfoldable pub hostLit : List ℕ → ℕ → ℕ
+hostLit b code = hostTold b (litAnswer (conditionIn b) code)

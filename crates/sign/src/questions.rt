@@ -1,0 +1,94 @@
+// The C host program's questions about the glass, on a lent block.
+ghost use mathlib.Core.Path.{_≡_};
+ghost use Rattle.sign.specs.Questions.{builtIn, shownAs, askedAs, hostView, hostDot, hostUnderline, hostLit};
+use glass::Shows;
+
+// A built-in character in its font, as a number.
+fn built_in(code: u8, font: u8) -> u32
+    ensures { λ r. ⌜ r ≡ builtIn code font ⌝ }
+{
+    if font == 0 {
+        768 + (code as u32)
+    } else {
+        1024 + (code as u32)
+    }
+}
+
+// What a cell shows, as a number.
+fn shown(s: Shows) -> u32
+    ensures { λ r. ⌜ r ≡ shownAs s ⌝ }
+{
+    match s {
+        Shows::Blank => 0,
+        Shows::User(x) => 256 + (x as u32),
+        Shows::Euro => 512,
+        Shows::BuiltIn(x, f) => built_in(x, f),
+    }
+}
+
+// A question's answer as a number: the value, or 65,536 plus the refusal.
+fn asked(refusal: u8, value: u32) -> u32
+    ensures { λ r. ⌜ r ≡ askedAs refusal value ⌝ }
+{
+    if refusal != 0 {
+        return 65536 + (refusal as u32);
+    }
+    value
+}
+
+// What the cell at a position of the block that is lent shows.
+#[no_mangle]
+pub extern "C" fn sign_view(block: &[u8], position: u32) -> u32
+    ensures { λ r. ⌜ r ≡ hostView (now (block .entry)) position ⌝ }
+{
+    let got = block::read(block);
+    if got.refusal != 0 {
+        return asked(got.refusal, 0);
+    }
+    let c = got.condition;
+    let seen = glass::view(c, position);
+    let s = seen.shows;
+    asked(seen.refusal, shown(s))
+}
+
+// Dot k of a user character of the block that is lent, asked by its code.
+#[no_mangle]
+pub extern "C" fn sign_dot(block: &[u8], code: u32, k: u32) -> u32
+    ensures { λ r. ⌜ r ≡ hostDot (now (block .entry)) code k ⌝ }
+{
+    let got = block::read(block);
+    if got.refusal != 0 {
+        return asked(got.refusal, 0);
+    }
+    let c = got.condition;
+    let dot = glass::dot(c, code, k);
+    asked(dot.refusal, dot.value)
+}
+
+// The underline of a user character of the block that is lent, asked by its code.
+#[no_mangle]
+pub extern "C" fn sign_underline(block: &[u8], code: u32) -> u32
+    ensures { λ r. ⌜ r ≡ hostUnderline (now (block .entry)) code ⌝ }
+{
+    let got = block::read(block);
+    if got.refusal != 0 {
+        return asked(got.refusal, 0);
+    }
+    let c = got.condition;
+    let underline = glass::underline(c, code);
+    asked(underline.refusal, underline.value)
+}
+
+// How many of its 35 dots a user character of the block that is lent lights, asked by its code.
+#[no_mangle]
+pub extern "C" fn sign_lit(block: &[u8], code: u32) -> u32
+    ensures { λ r. ⌜ r ≡ hostLit (now (block .entry)) code ⌝ }
+{
+    let got = block::read(block);
+    if got.refusal != 0 {
+        return asked(got.refusal, 0);
+    }
+    let c = got.condition;
+    let lit = glass::lit(c, code);
+    asked(lit.refusal, lit.value)
+}
