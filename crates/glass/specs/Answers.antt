@@ -25,8 +25,8 @@ viewAnswer c position =
 abbrev pub refused : Answer
 refused = record { refusal = 3; value = 0 }
 
--- the user character of a code. 3: condition not well formed, or user character asked for but not defined; a code is 0 to 255, and a
--- number above is compared as given, so it is nobody's
+-- the user character of a code. 3: condition not well formed, or user character asked for but not defined. 01: code 0 to 255, so
+-- a number above has none
 unfoldable pub lookupOf : Condition → ℕ → Found
 lookupOf c code = cond (wellFormed c && leb code 255) (foundOf (c .users) code) Missing
 

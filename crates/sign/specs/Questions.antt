@@ -25,7 +25,7 @@ shownAs (BuiltIn code font) = builtIn code font
 unfoldable pub askedAs : ℕ → ℕ → ℕ
 askedAs refusal value = cond (eqb refusal 0) value (65536 + refusal)
 
--- the refusal of the first of two that refuses, or 0
+-- the refusal of the first of two that refuses, or 0. The first is also the lowest: reading gives 1, 2 or 3, a question 3
 abbrev pub earlier : ℕ → ℕ → ℕ
 earlier n m = cond (eqb n 0) m n
 
