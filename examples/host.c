@@ -49,7 +49,7 @@ static int drawn(uint32_t position) {
     if (shows == SIGN_BLANK) return ' ';
     if (shows == SIGN_EURO) return 'E';
     if (shows < SIGN_EURO) return '#'; /* a user character: sign_dot has its dots */
-    int code = (int)(shows & 0xFF);    /* the fonts have the same ASCII, but for 5Ch, 7Eh and 7Fh */
+    int code = (int)(shows & 0xFF);
     return code <= 0x7E ? code : '?';
 }
 

@@ -1,23 +1,23 @@
-/* sign.h: a 20x2 VFD sign (module CU20029-KTW220A) for a C or C++ host. Link with libsign.a (x86-64).
-   examples/host.c is the smallest host, examples/station.c one that survives a loss of power, and
-   docs/HOST.md says what to do in which order, and what to do about each refusal.
+/* sign.h: a 20x2 VFD sign (module CU20029-KTW220A) for a C or C++ host. Link with libsign.a, which
+   is x86-64 code. examples/host.c is the smallest host, examples/station.c one that survives a loss
+   of power; docs/HOST.md says what to do in which order, and what to do about each refusal.
 
-   The sign is a block of 512 bytes that the host keeps and lends. sign_power_up makes one, sign_run does
-   to it what the module does with bytes that are sent to it, and sign_plan works out the fewest bytes
-   that change what it shows into a wanted picture; sign_plan_fonts takes a font for each cell as well.
-   sign_view, sign_dot, sign_underline and sign_lit say what the glass shows.
+   The sign is a block of 512 bytes that the host keeps and lends. sign_power_up makes one, sign_run
+   does to it what the module does with bytes that are sent to it, and sign_plan works out the
+   fewest bytes that change what it shows into a wanted picture; sign_plan_fonts takes a font for
+   each cell as well. sign_view, sign_dot, sign_underline and sign_lit say what the glass shows.
 
-   Run first, send afterwards: bytes that sign_run refuses must not go to the wire, because the module
-   would carry them out and the block would not follow.
+   Run first, send afterwards: bytes that sign_run refuses must not go to the wire, because the
+   module would carry them out and the block would not follow.
 
-   Every call takes any bytes: nothing in a buffer can make it fail otherwise than by a refusal, and a
-   refused call changes nothing that was lent to it. It looks at a buffer only within the length given.
-   What the host has to see to: each pointer is to that many bytes of its own memory (no NULL, not even
-   with length 0), and the buffers of one call do not overlap.
+   Every call takes any bytes: nothing in a buffer can make it fail otherwise than by a refusal, and
+   a refused call changes nothing that was lent to it. It looks at a buffer only within the length
+   given. What the host has to see to: each pointer is to that many bytes of its own memory (no
+   NULL, not even with length 0), and the buffers of one call do not overlap.
 
-   There is no state outside the buffers and no allocation: calls on different buffers may run at the
-   same time on any threads. A buffer that is only read (bytes, codes, fonts, the block of a plan or a
-   question) may be shared by such calls.                                                               */
+   There is no state outside the buffers and no allocation: calls on different buffers may run at
+   the same time on any threads. A buffer that is only read (bytes, codes, fonts, the block of a
+   plan or of a question) may be shared by such calls. */
 
 #ifndef SIGN_H
 #define SIGN_H
@@ -40,15 +40,32 @@ extern "C" {
 #define SIGN_FONTS_ROOM 104   /* bytes that sign_plan_fonts wants room for */
 #define SIGN_MOST       32768 /* most bytes in one run */
 
-/* Refusals: the lowest that holds is given. sign_run and sign_power_up answer the number itself, a plan
-   256 plus the number, a question 65,536 plus the number. */
+/* Stack that a call needs on x86-64, in bytes, from its return address down, with all that it calls
+   (the C library's memcpy and memset by their return address alone). The test `stack` compares
+   these lines with the compiled code.
+     sign_power_up   1,512
+     sign_run        2,056
+     sign_plan       2,660
+     sign_plan_fonts 2,644
+     sign_view       1,092
+     sign_dot        996
+     sign_underline  980
+     sign_lit        980
+   The code also uses the red zone, the 128 bytes below the stack pointer that the x86-64 ABI leaves
+   to a function. A signal handler on the same stack needs its own frame and those 128 bytes
+   besides. In a kernel or on bare metal the processor itself would write an interrupt's frame into
+   the red zone: give interrupts a stack of their own (IST), or keep them off during a call. */
+
+/* Refusals: the lowest that holds is given. sign_run and sign_power_up answer the number itself, a
+   plan 256 plus the number, a question 65,536 plus the number. */
 enum sign_refusal {
     SIGN_ACCEPTED      = 0,
     SIGN_WRONG_LENGTH  = 1,  /* block not 512 bytes, tally not 12, codes not 40, fonts not 40 */
-    SIGN_DAMAGED       = 2,  /* the block's bytes 0-2 or its check differ: not a block, or a damaged one */
-    SIGN_OUT_OF_RANGE  = 3,  /* the block is no condition that a sign can be in; a tally number is above
-                                4,000,000,000; the asked cursor or position is above 39; a font is above 1;
-                                a dot is not 1 to 35; no user character has the asked code */
+    SIGN_DAMAGED       = 2,  /* the block's bytes 0-2 or its check differ: no block, or damaged */
+    SIGN_OUT_OF_RANGE  = 3,  /* the block is no condition that a sign can be in; a tally number is
+                                above 4,000,000,000; the asked cursor or position is above 39; a
+                                font is above 1; a dot is not 1 to 35; no user character has the
+                                code */
     SIGN_TOO_LONG      = 4,  /* more than 32,768 bytes in one run */
     SIGN_TALLY_FULL    = 5,  /* a tally number would pass 4,000,000,000 */
     SIGN_HALF_RECEIVED = 6,  /* plan: a command is half received */
@@ -80,8 +97,8 @@ enum sign_refusal {
 #define SIGN_USER_COUNT_AT   20  /* how many user characters are held, 0 to 16 */
 #define SIGN_CODES_AT        24  /* the codes of the 40 cells */
 #define SIGN_FONTS_AT        64  /* their fonts, 0 International or 1 Katakana */
-#define SIGN_USERS_AT        104 /* the user characters, oldest first, six bytes each: code, d1 to d5 */
-#define SIGN_USER_BYTES      6
+#define SIGN_USERS_AT        104 /* the user characters, oldest first: code, d1 to d5 */
+#define SIGN_USER_BYTES      6   /* bytes of each */
 
 /* What is half received (SIGN_HALF_AT). docs/HOST.md says which bytes end each. */
 enum sign_half {
@@ -90,31 +107,35 @@ enum sign_half {
 };
 
 /* Writes the block of a sign that was just switched on; font 0 is link J6 open, 1 is J6 linked.
-   Answers 0; or 3 for another font, then 10 for less than 512 bytes. Only the first 512 bytes change. */
+   Answers 0; or 3 for another font, then 10 for less than 512 bytes. Only the first 512 bytes
+   change. */
 uint32_t sign_power_up(uint32_t font, uint8_t *block, size_t block_len);
 
-/* Does to the block what the module does with these bytes in turn, and adds to the tally: three numbers
-   of four bytes, low byte first: the bytes received, the microseconds that the sign is busy, and the
-   bytes received while flickerless writing was already on (sign_tally_number reads one).
-   Answers 0, and then block and tally are up to date, and the bytes are to be sent; or 1, 2, 3, 4 or 5,
-   and then neither changed, and the bytes must not be sent. */
+/* Does to the block what the module does with these bytes in turn, and adds to the tally: three
+   numbers of four bytes, low byte first: the bytes received, the microseconds that the sign is
+   busy, and the bytes received while flickerless writing was already on (sign_tally_number reads
+   one).
+   Answers 0, and then block and tally are up to date, and the bytes are to be sent; or 1, 2, 3, 4
+   or 5, and then neither changed, and the bytes must not be sent. */
 uint32_t sign_run(uint8_t *block, size_t block_len,
                   uint8_t *tally, size_t tally_len,
                   const uint8_t *bytes, size_t bytes_len);
 
-/* Writes to out the bytes that bring the 40 wanted codes onto the sign, each in the selected font, and the
-   cursor to the asked place: at most 44, and no string of cursor moves and writes in reading order does it
-   with fewer. The block stays as it is: give the bytes to sign_run, and send them where it answers 0.
+/* Writes to out the bytes that bring the 40 wanted codes onto the sign, each in the selected
+   font, and the cursor to the asked place: at most 44, and no string of cursor moves and writes
+   in reading order does it with fewer. The block stays as it is: give the bytes to sign_run, and
+   send them where it answers 0.
    Answers how many bytes were written (0: all is there already), and nothing else of out changes;
    or 256 plus 1, 2, 3, 6, 7, 8, 9 or 10, and then out did not change. */
 uint32_t sign_plan(const uint8_t *block, size_t block_len,
                    const uint8_t *codes, size_t codes_len, uint32_t cursor,
                    uint8_t *out, size_t out_len);
 
-/* The same with a wanted font for each cell, 0 International or 1 Katakana. The bytes may also switch the
-   selected font: 19h to Katakana; 18h to International, or 18h 1Ah while Euro is on, so that it stays on.
-   At most 104, and no string of cursor moves, such switches and writes in reading order does it with fewer.
-   Either font may be selected afterwards; nothing but it, the cells and the cursor changes.
+/* The same with a wanted font for each cell, 0 International or 1 Katakana. The bytes may also
+   switch the selected font: 19h to Katakana; 18h to International, or 18h 1Ah while Euro is on,
+   so that it stays on. At most 104, and no string of cursor moves, such switches and writes in
+   reading order does it with fewer. Either font may be selected afterwards; nothing but it, the
+   cells and the cursor changes.
    Answers how many bytes were written (0: all is there already), and nothing else of out changes;
    or 256 plus 1, 2, 3, 6, 7, 8, 9 or 10, and then out did not change. */
 uint32_t sign_plan_fonts(const uint8_t *block, size_t block_len,
@@ -122,8 +143,8 @@ uint32_t sign_plan_fonts(const uint8_t *block, size_t block_len,
                          const uint8_t *fonts, size_t fonts_len, uint32_t cursor,
                          uint8_t *out, size_t out_len);
 
-/* What a cell shows (sign_view): one of these, plus the code (0 to 255) for a user character and for a
-   built-in one. A blank cell and the Euro mark carry no code. */
+/* What a cell shows (sign_view): one of these, plus the code (0 to 255) for a user character and
+   for a built-in one. A blank cell and the Euro mark carry no code. */
 enum sign_shows {
     SIGN_BLANK         = 0,
     SIGN_USER          = 256,
@@ -132,7 +153,7 @@ enum sign_shows {
     SIGN_KATAKANA      = 1024
 };
 
-/* What the glass shows at a position, 0 to 39: enum sign_shows. Space (20h) is a built-in character.
+/* What the glass shows at a position, 0 to 39: enum sign_shows. A space (20h) is a built-in one.
    Answers 65,536 plus 1, 2 or 3 where it is refused. */
 uint32_t sign_view(const uint8_t *block, size_t block_len, uint32_t position);
 
@@ -143,8 +164,8 @@ uint32_t sign_dot(const uint8_t *block, size_t block_len, uint32_t code, uint32_
 /* The underline of the user character on a code: 1 lit, 0 dark. Refused as sign_dot. */
 uint32_t sign_underline(const uint8_t *block, size_t block_len, uint32_t code);
 
-/* How many of its 35 dots the user character on a code lights, the underline not counted. Refused as
-   sign_dot. */
+/* How many of its 35 dots the user character on a code lights, the underline not counted. Refused
+   as sign_dot. */
 uint32_t sign_lit(const uint8_t *block, size_t block_len, uint32_t code);
 
 /* The numbers of a tally. */

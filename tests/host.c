@@ -1,7 +1,9 @@
-/* The fourteen cases of the bench sheet (document 01), pictures of two fonts (request W1), and one refusal of
-   each number, through the four C functions. Prints ok, or what failed. */
+/* The fourteen cases of the bench sheet (document 01), pictures of two fonts (request W1), one refusal of
+   each number, and what docs/HOST.md advises (what ends half a command, recovery), through the C functions
+   and the helpers of sign.h. Prints ok, or what failed. */
 
 #include <stdio.h>
+#include <stdlib.h>
 #include <string.h>
 #include "sign.h"
 
@@ -27,12 +29,11 @@ static void after(const uint8_t *bytes, size_t n) {
 }
 #define AFTER(...) do { const uint8_t b_[] = {__VA_ARGS__}; after(b_, sizeof b_); } while (0)
 
-static uint32_t number(int i) {
-    return tally[4 * i] | (uint32_t)tally[4 * i + 1] << 8 | (uint32_t)tally[4 * i + 2] << 16 | (uint32_t)tally[4 * i + 3] << 24;
-}
-static uint32_t busy(void) { return number(1); }
-static int cell(int i) { return block[24 + i]; }
-static int cursor(void) { return block[3]; }
+static uint32_t number(int i) { return sign_tally_number(tally, (enum sign_number)i); }
+static uint32_t busy(void) { return number(SIGN_BUSY); }
+static int cell(int i) { return block[SIGN_CODES_AT + i]; }
+static int cursor(void) { return block[SIGN_CURSOR_AT]; }
+static uint32_t view(uint32_t position) { return sign_view(block, sizeof block, position); }
 
 /* How many cells are not blank. */
 static int written(void) {
@@ -55,8 +56,8 @@ static int planned(uint32_t n, const uint8_t *bytes, size_t length) {
     return n == length && memcmp(out, bytes, length) == 0 && rest;
 }
 
-/* Dot Pk of the user character in the first place of the block. */
-static int dot(int k) { return block[105 + (k - 1) / 8] >> ((k - 1) % 8) & 1; }
+/* Dot Pk of the user character on 21h. */
+static uint32_t dot(uint32_t k) { return sign_dot(block, sizeof block, 0x21, k); }
 
 static void bench_sheet(void) {
     uint8_t start[SIGN_BLOCK];
@@ -82,17 +83,17 @@ static void bench_sheet(void) {
     check("6", memcmp(block, start, sizeof start) == 0 && busy() == 14);
 
     AFTER(0x1B, 0x43, 0x21, 0x84, 0x10, 0x02, 0x00, 0x01);
-    int lit = 0;
-    for (int k = 1; k <= 35; k++) lit += dot(k);
-    check("7", block[20] == 1 && block[104] == 0x21 && dot(3) && dot(8) && dot(13) && dot(18) && dot(33) && lit == 5 && busy() == 55);
+    uint32_t lit = 0;
+    for (uint32_t k = 1; k <= 35; k++) lit += dot(k);
+    check("7", dot(3) == 1 && dot(8) == 1 && dot(13) == 1 && dot(18) == 1 && dot(33) == 1 && lit == 5 && busy() == 55);
+    check("7: asked", sign_lit(block, sizeof block, 0x21) == 5 && sign_underline(block, sizeof block, 0x21) == 0);
 
     AFTER(0x1B, 0x48, 0x14, 0x08);
     check("8", cursor() == 20);
 
-    /* ADh in the International font is the Euro mark while byte 9 is 1, else blank */
     AFTER(0x1A, 0xAD);
-    check("9: Euro", cell(0) == 0xAD && block[64] == 0 && block[9] == 1);
-    check("9: then 18", run((const uint8_t[]){0x18}, 1) == 0 && cell(0) == 0xAD && block[64] == 0 && block[9] == 0);
+    check("9: Euro", view(0) == SIGN_EURO && cell(0) == 0xAD);
+    check("9: then 18", run((const uint8_t[]){0x18}, 1) == 0 && view(0) == SIGN_BLANK && cell(0) == 0xAD);
 
     AFTER(0x1B, 0x43, 0x09, 0, 0, 0, 0, 0, 0x09);
     memset(want, 0x20, sizeof want);
@@ -240,13 +241,107 @@ static void refusals(void) {
     check("power-up 10", sign_power_up(1, block, 511) == 10);
 }
 
-int main(void) {
+static void questions(void) {
+    AFTER(0x41, 0x19, 0x42, 0x18, 0x1B, 0x43, 0x01, 0, 0, 0, 0, 0x08, 0x01, 0x02);
+    check("view: both fonts", view(0) == SIGN_INTERNATIONAL + 0x41 && view(1) == SIGN_KATAKANA + 0x42);
+    check("view: user character, blank space", view(2) == SIGN_USER + 0x01 && view(3) == SIGN_INTERNATIONAL + 0x20);
+    check("underline", sign_underline(block, 512, 1) == 1 && sign_lit(block, 512, 1) == 0 && sign_dot(block, 512, 1, 35) == 0);
+    check("view 3", view(40) == SIGN_ASKED_REFUSED + 3 && view(256) == SIGN_ASKED_REFUSED + 3);
+    check("dot 3", sign_dot(block, 512, 1, 0) == 65536 + 3 && sign_dot(block, 512, 1, 36) == 65536 + 3);
+    check("asked 3", sign_lit(block, 512, 257) == 65536 + 3 && sign_underline(block, 512, 2) == 65536 + 3);
+    check("asked 1", sign_view(block, 511, 0) == 65536 + 1 && sign_lit(block, 513, 1) == 65536 + 1);
+    block[100] ^= 1;
+    check("asked 2", view(0) == 65536 + 2 && sign_dot(block, 512, 1, 1) == 65536 + 2);
+    for (uint32_t n = SIGN_ACCEPTED; n <= SIGN_NO_ROOM; n++)
+        check("each refusal in words", strcmp(sign_refusal_text(n), sign_refusal_text(SIGN_NO_ROOM + 1)) != 0);
+}
+
+/* docs/HOST.md, 262: the bytes that end what is half received, by byte 13; how many. */
+static size_t ending(uint8_t *end) {
+    int held = block[SIGN_HELD_COUNT_AT], users = block[SIGN_USER_COUNT_AT];
+    memset(end, 0, 6);
+    switch (block[SIGN_HALF_AT]) {
+    case SIGN_HALF_ESC: return 1;
+    case SIGN_HALF_POSITION: end[0] = 0xFF; return 1;
+    case SIGN_HALF_LUMINANCE: end[0] = (uint8_t)(block[SIGN_LUMINANCE_AT] * 64); return 1;
+    case SIGN_HALF_SPEED: end[0] = block[SIGN_SPEED_AT]; return 1;
+    case SIGN_HALF_USER_CODE:
+        if (users > 0) memcpy(end, block + SIGN_USERS_AT + SIGN_USER_BYTES * (users - 1), SIGN_USER_BYTES);
+        return 6;
+    case SIGN_HALF_USER_DATA: return (size_t)(5 - held);
+    default: return 0;
+    }
+}
+
+/* The bytes of recovery, as docs/HOST.md has them: the test's arguments, in hex. */
+static uint8_t recovery[8];
+
+/* Each half-received command, with 0, 1 and 16 user characters: the advised bytes end it and change nothing
+   else, but for the user character that is defined; and recovery leads back to power-up, 1Bh 49h alone does
+   not. */
+static void half_received(void) {
+    static const char *const halves[] = {"\x1B", "\x1BH", "\x1BL", "\x1BT", "\x1B" "C", "\x1B" "CA", "\x1B" "CA1234"};
+    uint8_t before[SIGN_BLOCK], power_up[SIGN_BLOCK], end[6];
+    check("power-up for font 1", sign_power_up(1, power_up, sizeof power_up) == 0);
+    for (int users = 0; users <= 16; users += users == 0 ? 1 : 15) {
+        for (size_t i = 0; i < sizeof halves / sizeof *halves; i++) {
+            memset(tally, 0, sizeof tally);
+            memcpy(block, power_up, sizeof block);
+            check("some settings", run((const uint8_t *)"\x1BL\x40\x1BT\x07\x15Gate\x13", 12) == 0);
+            for (int u = 0; u < users; u++) {
+                const uint8_t define[] = {0x1B, 0x43, (uint8_t)(0x80 + u), 1, 2, 3, 4, (uint8_t)(u % 16)};
+                check("a user character", run(define, sizeof define) == 0);
+            }
+            memcpy(before, block, sizeof before);
+            check("half a command", run((const uint8_t *)halves[i], strlen(halves[i])) == 0 && plan(0) == 256 + 6);
+            int defines = block[SIGN_HALF_AT] == SIGN_HALF_USER_DATA || (block[SIGN_HALF_AT] == SIGN_HALF_USER_CODE && users == 0);
+            check("its end", run(end, ending(end)) == 0 && block[SIGN_HALF_AT] == SIGN_HALF_NONE);
+            if (defines) check("a user character more", block[SIGN_USER_COUNT_AT] == (users == 16 ? 16 : users + 1));
+            else check("nothing else changed", memcmp(block, before, sizeof before) == 0);
+
+            memcpy(block, before, sizeof block);
+            check("half a command again", run((const uint8_t *)halves[i], strlen(halves[i])) == 0);
+            memcpy(before, block, sizeof before);
+            check("1Bh 49h alone", run(recovery + 6, 2) == 0 && memcmp(block, power_up, sizeof block) != 0);
+            memcpy(block, before, sizeof block);
+            check("recovery", run(recovery, sizeof recovery) == 0 && memcmp(block, power_up, sizeof block) == 0);
+        }
+    }
+}
+
+/* What else docs/HOST.md advises: 263, 264, 5, and where only the power switch helps. */
+static void advice(void) {
+    memset(want, 0x20, sizeof want);
+    AFTER(0x13);
+    check("263: 11h", plan(0) == 256 + 7 && run((const uint8_t[]){0x11}, 1) == 0 && plan(0) < 256);
+    AFTER(0x1B, 0x43, 0x11, 0, 0, 0, 0, 0, 0x12);
+    check("263: a user character on 11h", run((const uint8_t[]){0x11}, 1) == 0 && plan(0) == 256 + 7);
+    check("263: recovery", run(recovery, sizeof recovery) == 0 && plan(0) < 256);
+    AFTER(0x1B, 0x43, 0x0A, 0, 0, 0, 0, 0);
+    check("264: recovery", plan(0) == 256 + 8 && run(recovery, sizeof recovery) == 0 && plan(0) < 256);
+    AFTER(0x1B, 0x43, 0x1B, 0, 0, 0, 0, 0);
+    check("264: a user character on 1Bh", run(recovery, sizeof recovery) == 0 && plan(0) == 256 + 8);
+    AFTER(0x1B, 0x43, 0x1B);
+    check("1Bh is just becoming one", run(recovery, sizeof recovery) == 0 && plan(0) == 256 + 8);
+    AFTER(0x1B, 0x43);
+    check("1Bh 49h makes it one", run(recovery + 6, 2) == 0 && block[SIGN_HALF_CODE_AT] == 0x1B);
+    after(want, 0);
+    memcpy(tally, "\x00\x28\x6B\xEE", 4); /* 4,000,000,000 */
+    check("5: a tally of 0", run(want, 1) == 5 && memset(tally, 0, sizeof tally) != NULL && run(want, 1) == 0);
+}
+
+int main(int argc, char **argv) {
+    check("eight bytes of recovery", argc == 1 + (int)sizeof recovery);
+    for (int i = 0; i + 1 < argc && i < (int)sizeof recovery; i++) recovery[i] = (uint8_t)strtoul(argv[i + 1], NULL, 16);
     memset(want, 0x20, sizeof want);
     bench_sheet();
     two_fonts();
     fonts_refusals();
     memset(want, 0x20, sizeof want);
     refusals();
+    questions();
+    half_received();
+    advice();
     if (failures) return 1;
     printf("ok\n");
     return 0;

@@ -1,4 +1,4 @@
-//! Calls the four C functions with all kinds of arguments, right and wrong, and compares each answer
+//! Calls sign_run, both plans and sign_power_up with all kinds of arguments, right and wrong, and compares each answer
 //! and each byte of each buffer with the independent program. Linked with libsign.a.
 
 mod inputs;

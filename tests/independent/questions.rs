@@ -24,6 +24,8 @@ struct Questions {
     rng: Rng,
     /// Answers of each question by refusal (0: accepted), to show that each was met.
     met: [[u64; 4]; 4],
+    /// Questions that are refused 3 by themselves, by the refusal of their block (0: accepted).
+    mixed: [[u64; 4]; 4],
 }
 
 impl Questions {
@@ -36,7 +38,14 @@ impl Questions {
             _ => (sign::lit(block, number), host_lit(block, number)),
         };
         self.report.cases += 1;
-        self.met[which][expected.saturating_sub(65_536) as usize] += 1;
+        let refusal = expected.saturating_sub(65_536) as usize;
+        self.met[which][refusal] += 1;
+        let by_itself = match which {
+            0 => number > 39,
+            1 => number > 255 || k < 1 || k > 35,
+            _ => number > 255,
+        };
+        self.mixed[which][refusal] += by_itself as u64;
         self.report.expect(got == expected, || {
             format!(
                 "{} of {} (dot {}), block of {} with head {}: answer {} and should be {}",
@@ -70,7 +79,8 @@ impl Questions {
     }
 
     fn untouched(&mut self, lent: &Lent) {
-        self.report.expect(lent.untouched(), || "a question wrote somewhere".to_string());
+        self.report
+            .expect(lent.untouched(), || "a question wrote somewhere".to_string());
     }
 
     /// Every position and every code of a condition, every dot of its user characters, and wide numbers.
@@ -116,7 +126,10 @@ fn each_code(q: &mut Questions) {
             c.codes[39] = code;
             c.fonts[39] = (way >> 1 & 1) as u8;
             if way >= 4 {
-                c.users[0] = User { code, dots: [code, 1, 2, 4, 8] };
+                c.users[0] = User {
+                    code,
+                    dots: [code, 1, 2, 4, 8],
+                };
                 c.count = 1;
             }
             let lent = Lent::new(&c.to_block(), &mut q.rng);
@@ -128,10 +141,12 @@ fn each_code(q: &mut Questions) {
     }
 }
 
-/// Each byte of a block with some values, under a right check and under a wrong one; each length.
+/// Each byte of a block with some values, under a right check and under a wrong one; each length. The
+/// question is right, or is refused by itself as well: then the block's refusal comes first.
 fn refused_blocks(q: &mut Questions, c: &Condition) {
     let good = c.to_block();
     let code = c.users[0].code as u32;
+    let asked = [(code, 3), (5, 0), (40, 36), (256, 3), (65_536 + 5, 35), (u32::MAX, 256)];
     for i in 0..BLOCK {
         for v in [0, 1, 2, 3, 4, 7, 16, 17, 40, 0x1B, 0x20, 0x80, 0xFF] {
             for right in [true, false] {
@@ -140,14 +155,17 @@ fn refused_blocks(q: &mut Questions, c: &Condition) {
                 if right {
                     seal(&mut b);
                 }
-                q.each(&b, code, 3);
+                let (number, k) = q.rng.pick(&asked);
+                q.each(&b, number, k);
             }
         }
     }
     for length in (0..700).chain([1_024, 5_000]) {
         let mut b = good.to_vec();
         b.resize(length, 0);
-        q.each(&b, 5, 3);
+        for (number, k) in asked {
+            q.each(&b, number, k);
+        }
     }
 }
 
@@ -169,8 +187,9 @@ fn giant_block(q: &mut Questions, c: &Condition) {
         sign::underline(giant, code),
         sign::lit(giant, code),
     ];
-    q.report
-        .expect(got == [65_537; 4], || format!("block of {} bytes: answers {:?}", n, got));
+    q.report.expect(got == [65_537; 4], || {
+        format!("block of {} bytes: answers {:?}", n, got)
+    });
     q.report.cases += 4;
     unsafe { dealloc(p, layout) };
 }
@@ -181,7 +200,8 @@ fn threads(q: &mut Questions, c: &Condition) {
     let workers: Vec<_> = (0..4)
         .map(|_| {
             std::thread::spawn(move || {
-                let answers = |ask: fn(&[u8], u32) -> u32| (0..1_000u32).map(|i| ask(&block, i % 300)).collect::<Vec<_>>();
+                let answers =
+                    |ask: fn(&[u8], u32) -> u32| (0..1_000u32).map(|i| ask(&block, i % 300)).collect::<Vec<_>>();
                 answers(sign::view) == answers(host_view)
                     && answers(sign::underline) == answers(host_underline)
                     && answers(sign::lit) == answers(host_lit)
@@ -201,6 +221,7 @@ fn main() {
         report: Report::new(),
         rng: Rng::new(11),
         met: [[0; 4]; 4],
+        mixed: [[0; 4]; 4],
     };
     let mut held = any_condition(&mut q.rng);
     while held.count < 16 || held.is_user(0x1B) {
@@ -220,11 +241,24 @@ fn main() {
     }
     giant_block(&mut q, &held);
     threads(&mut q, &held);
-    for (name, met) in NAMES.iter().zip(q.met) {
-        println!("questions: {} accepted {}, refused 1 to 3: {:?}", name, met[0], &met[1..]);
-        for (n, &times) in met.iter().enumerate() {
-            q.report
-                .expect(times > 100, || format!("{} was answered {} only {} times", name, n, times));
+    for (i, name) in NAMES.iter().enumerate() {
+        let (met, mixed) = (q.met[i], q.mixed[i]);
+        println!(
+            "questions: {} accepted {}, refused 1 to 3: {:?}; of these wrong by themselves: {:?}",
+            name,
+            met[0],
+            &met[1..],
+            &mixed[1..]
+        );
+        for n in 0..4 {
+            q.report.expect(met[n] > 100, || {
+                format!("{} was answered {} only {} times", name, n, met[n])
+            });
+        }
+        for n in 1..4 {
+            q.report.expect(mixed[n] > 100, || {
+                format!("{} refused {} was not tried with a wrong question", name, n)
+            });
         }
     }
     q.report.end("questions", 1_000_000);
