@@ -1,6 +1,8 @@
-/* Plans one picture so many times: plan_cost KIND TIMES. For counting instructions; see run.sh, `costs`.
-   KIND, from power-up font 0, cursor 0, in one font: 0 nothing is wrong, 1 every cell, 2 every second cell, 3 every fifth cell.
-   In two fonts, every cell wrong: 4 the lower line Katakana, 5 the longest plan (fonts in turn, Katakana selected, Euro on). */
+/* Makes one call so many times: costs KIND TIMES. For counting instructions; see run.sh, `costs`.
+   KIND, from power-up font 0, cursor 0, a plan in one font: 0 nothing is wrong, 1 every cell, 2 every second cell,
+   3 every fifth cell. In two fonts, every cell wrong: 4 the lower line Katakana, 5 the longest plan (fonts in turn,
+   Katakana selected, Euro on). With 16 user characters: 6 sign_view of a cell with the youngest, of which
+   7 sign_dot, 8 sign_underline, 9 sign_lit. Prints the last answer. */
 #include <stdio.h>
 #include <stdlib.h>
 #include <string.h>
@@ -8,23 +10,39 @@
 
 static uint8_t block[SIGN_BLOCK], tally[SIGN_TALLY], codes[SIGN_CELLS], fonts[SIGN_CELLS], out[SIGN_FONTS_ROOM];
 
-static uint32_t plan(int kind) {
+static uint32_t run(const uint8_t *bytes, size_t n) { return sign_run(block, sizeof block, tally, sizeof tally, bytes, n); }
+
+static uint32_t question(int kind) {
+    switch (kind) {
+    case 6: return sign_view(block, sizeof block, 0);
+    case 7: return sign_dot(block, sizeof block, 0x8F, 35);
+    case 8: return sign_underline(block, sizeof block, 0x8F);
+    default: return sign_lit(block, sizeof block, 0x8F);
+    }
+}
+
+static uint32_t call(int kind) {
     if (kind < 4) return sign_plan(block, sizeof block, codes, sizeof codes, 0, out, sizeof out);
+    if (kind >= 6) return question(kind);
     return sign_plan_fonts(block, sizeof block, codes, sizeof codes, fonts, sizeof fonts, kind == 5 ? 39 : 0, out, sizeof out);
 }
 
 int main(int argc, char **argv) {
-    static const int gap[] = {SIGN_CELLS, 1, 2, 5, 1, 1};
+    static const int gap[] = {SIGN_CELLS, 1, 2, 5, 1, 1, 1, 1, 1, 1};
     static const uint8_t longest[] = {0x19, 0x1A, 0x1B, 0x48, 0x05};
     if (argc != 3) return 2;
-    int kind = atoi(argv[1]) % 6, times = atoi(argv[2]);
-    if (sign_power_up(0, block, sizeof block) != 0) return 1;
-    if (kind == 5 && sign_run(block, sizeof block, tally, sizeof tally, longest, sizeof longest) != 0) return 1;
+    int kind = atoi(argv[1]) % 10, times = atoi(argv[2]);
+    if (sign_power_up(0, block, sizeof block) != SIGN_ACCEPTED) return 1;
+    if (kind == 5 && run(longest, sizeof longest) != SIGN_ACCEPTED) return 1;
+    for (uint8_t code = 0x80; kind >= 6 && code < 0x90; code++) {
+        const uint8_t define[] = {0x0C, 0x1B, 0x43, code, 1, 2, 3, 4, 5, code};
+        if (run(define, sizeof define) != SIGN_ACCEPTED) return 1;
+    }
     memset(codes, ' ', sizeof codes);
     for (int i = kind == 0 ? SIGN_CELLS : 0; i < SIGN_CELLS; i += gap[kind]) codes[i] = 'A';
     for (int i = 0; i < SIGN_CELLS; i++) fonts[i] = kind == 4 ? i >= SIGN_CELLS / 2 : i % 2;
-    uint32_t length = 0;
-    for (int i = 0; i < times; i++) length = plan(kind);
-    printf("%u\n", (unsigned)length);
+    uint32_t answer = 0;
+    for (int i = 0; i < times; i++) answer = call(kind);
+    printf("%u\n", (unsigned)answer);
     return 0;
 }

@@ -1,29 +1,43 @@
 #!/bin/sh
-# Builds and runs one test: tests/run.sh self | show | tell | host | plans | fonts | alike | c-host | example | dump
-# or a measure: tests/run.sh speed | costs. See tests/README.md.
+# Builds and runs one test, or a measure: tests/run.sh NAME. See tests/README.md. The gate runs these:
+tests='docs self show tell host questions plans fonts alike c-host example dump station install stack'
 set -eu
 cd "$(dirname "$0")/.."
+case ${1:-} in
+names) echo "$tests" && exit ;;
+docs) exec tests/docs.sh ;; # it wants no compiler
+esac
 . tests/tools.sh
 out=target/tests
 mkdir -p "$out"
 
-# Is this product missing, or older than its sources?
-stale() { [ ! -e "$1" ] || [ -n "$(find crates crates.txt -newer "$1" 2>/dev/null | head -n 1)" ]; }
-program() { if stale "target/bin/$1"; then rt check "$1"; fi; }
-library() { if stale target/staticlib/libsign.a; then rt staticlib sign; fi; }
+# The Makefile knows when a product is older than its sources. (Its own options, as -j, are not for this one.)
+program() { MAKEFLAGS='' make -s "$1"; }
+library() { MAKEFLAGS='' make -s lib; }
 
 # alone NAME: a test program of this machine; linked NAME WORDS: one that is linked with libsign.a
-alone() { $OWN_RUSTC --edition 2021 -O -C overflow-checks=on -o "$out/$1" "tests/independent/$1.rs"; }
+alone() {
+    need rust
+    $OWN_RUSTC --edition 2021 -O -C overflow-checks=on -o "$out/$1" "tests/independent/$1.rs"
+}
 linked() {
+    need rust
     library
     name=$1
     shift
     $RUSTC --edition 2021 -O "$@" -L native=target/staticlib -l static=sign -o "$out/$name" "tests/independent/$name.rs"
 }
 c_program() { # NAME FILE
+    need c
     library
     $CC -std=c11 -pedantic -Wall -Wextra -O2 -Iinclude -static -o "$out/$1" "$2" target/staticlib/libsign.a
 }
+
+# advised FIRST: the bytes that docs/HOST.md gives in backticks, eight of them, beginning with this one
+advised() { sed -n "s/.*\`\($1\( [0-9A-F][0-9A-F]\)\{7\}\)\`.*/\1/p" docs/HOST.md; }
+
+# The stack of each function, read from the code: lines of a name and a number.
+stack_read() { "${CROSS}objdump" -dr --no-show-raw-insn target/staticlib/libsign.a | awk -f tests/stack.awk; }
 
 # count PROGRAM WORDS: the instructions that the program takes. By qemu's plug-in, valgrind or perf: the first that works.
 choose_counter() { # PROGRAM WORDS, to try it on
@@ -64,7 +78,7 @@ show | tell)
     # shellcheck disable=SC2086
     "$out/$1" $RUN "target/bin/$1"
     ;;
-host | plans | fonts)
+host | questions | plans | fonts)
     linked "$1" -C overflow-checks=on
     $RUN "$out/$1"
     ;;
@@ -74,7 +88,8 @@ alike)
     ;;
 c-host)
     c_program c-host tests/host.c
-    said=$($RUN "$out/c-host") || { printf '%s\n' "$said"; exit 1; }
+    # shellcheck disable=SC2046
+    said=$($RUN "$out/c-host" $(advised 00)) || { printf '%s\n' "$said"; exit 1; }
     printf '%s\n' "$said"
     [ "$said" = ok ]
     ;;
@@ -83,11 +98,53 @@ example)
     $RUN "$out/example" >"$out/example.txt"
     cat "$out/example.txt"
     diff examples/host.txt "$out/example.txt"
+    # the lines that the README shows
+    sed -n '/^```c$/,/^```$/p' README.md | sed '1d;$d' >"$out/readme.c"
+    $CC -std=c11 -pedantic -Wall -Wextra -Werror -Iinclude -c -o "$out/readme.o" "$out/readme.c"
+    grep -q sign_run "$out/readme.c"
+    ;;
+station)
+    c_program station-host examples/station.c
+    alone station
+    # shellcheck disable=SC2086
+    "$out/station" $RUN "$out/station-host"
     ;;
 dump)
     c_program dump tests/dump.c
+    # fence NAME: what docs/HOST.md has between ```NAME and ```
+    fence() { sed -n "/^\`\`\`$1/,/^\`\`\`\$/p" docs/HOST.md | sed '1d;$d'; }
     $RUN "$out/dump" >"$out/dump.txt"
-    sed -n '/^```dump/,/^```$/p' docs/HOST.md | sed '1d;$d' | diff - "$out/dump.txt"
+    fence dump | diff - "$out/dump.txt"
+    # the user character: its bytes give the dots that are drawn, their count, and stand beside the drawing
+    bytes=$(advised 1B)
+    # shellcheck disable=SC2086
+    $RUN "$out/dump" $bytes >"$out/dots.txt"
+    { fence dots | cut -c 1-9 && grep -o '([0-9]* dots are lit)' docs/HOST.md; } | diff - "$out/dots.txt"
+    beside=$(fence dots | sed -n 's/.* = \([0-9A-F][0-9A-F]\)h$/\1/p' | tr '\n' ' ')
+    [ "1B 43 01 $beside" = "$bytes " ]
+    ;;
+install)
+    library
+    tests/install.sh
+    ;;
+stack)
+    c_program stack tests/stack.c
+    stack_read >"$out/stack.read"
+    $RUN "$out/stack" >"$out/stack.painted"
+    sed -n 's/^ *\(sign_[a-z_]*\)  *\([0-9,]*\)$/\1 \2/p' include/sign.h | tr -d , >"$out/stack.said"
+    # A frame that is aligned may end in up to 15 bytes that nothing writes.
+    (cd "$out" && awk '
+        !($1 in known) { known[$1]; name[++names] = $1 }
+        { n[$1, FILENAME] = $2 }
+        END {
+            for (i = 1; i <= names; i++) {
+                f = name[i]; read = n[f, "stack.read"]; painted = n[f, "stack.painted"]; said = n[f, "stack.said"]
+                right = read > 0 && said == read && painted <= read && painted > read - 16
+                wrong += !right
+                print "stack: " (right ? "" : "FAILED: ") f ": " read + 0 " bytes by the code, " painted + 0 " used, " said + 0 " in sign.h"
+            }
+            exit !n["sign_run", "stack.read"] || wrong > 0
+        }' stack.read stack.painted stack.said)
     ;;
 speed)
     linked speed
@@ -101,18 +158,18 @@ speed)
     done
     ;;
 costs)
-    c_program plan_cost tests/plan_cost.c
-    choose_counter "$out/plan_cost" 0 0
-    for kind in 0 1 2 3 4 5; do
-        ten=$(count "$out/plan_cost" "$kind" 10)
-        none=$(count "$out/plan_cost" "$kind" 0)
-        echo "costs: a plan of $($RUN "$out/plan_cost" "$kind" 1) bytes (kind $kind) takes $(((ten - none) / 10)) instructions"
+    c_program costs tests/costs.c
+    choose_counter "$out/costs" 0 1
+    # between 10 and 90 calls, so that nothing of the program's start and end is in it
+    for kind in 0 1 2 3 4 5 6 7 8 9; do
+        ninety=$(count "$out/costs" "$kind" 90)
+        ten=$(count "$out/costs" "$kind" 10)
+        echo "costs: kind $kind takes $(((ninety - ten) / 80)) instructions and answers $($RUN "$out/costs" "$kind" 1)"
     done
-    echo "costs: libsign.a has $(size target/staticlib/libsign.a | awk 'NR > 1 { n += $1 } END { print n }') bytes of code and constants"
-    objdump -dr target/staticlib/libsign.a | python3 tests/stack.py
+    echo "costs: libsign.a has $("${CROSS}size" target/staticlib/libsign.a | awk 'NR > 1 { n += $1 } END { print n }') bytes of code and constants"
     ;;
 *)
-    echo "usage: tests/run.sh self | show | tell | host | plans | fonts | alike | c-host | example | dump | speed | costs" >&2
+    echo "usage: tests/run.sh NAME, a test: $tests; or a measure: speed costs" >&2
     exit 2
     ;;
 esac
