@@ -35,8 +35,9 @@ install: $(LIB)    ## library, header and pkg-config file under PREFIX (or LIBDI
 	umask 022 && mkdir -p "$(DESTDIR)$(LIBDIR)/pkgconfig" "$(DESTDIR)$(INCLUDEDIR)"
 	install -m 644 $(LIB) "$(DESTDIR)$(LIBDIR)/libsign.a"
 	install -m 644 include/sign.h "$(DESTDIR)$(INCLUDEDIR)/sign.h"
-	sed 's|@PREFIX@|$(PREFIX)|; s|@LIBDIR@|$(LIBDIR)|; s|@INCLUDEDIR@|$(INCLUDEDIR)|; s|@VERSION@|$(VERSION)|' sign.pc.in | \
-		install -m 644 /dev/stdin "$(DESTDIR)$(LIBDIR)/pkgconfig/sign.pc"
+	sed 's|@PREFIX@|$(PREFIX)|; s|@LIBDIR@|$(LIBDIR)|; s|@INCLUDEDIR@|$(INCLUDEDIR)|; s|@VERSION@|$(VERSION)|' sign.pc.in \
+		>"$(DESTDIR)$(LIBDIR)/pkgconfig/sign.pc"
+	chmod 644 "$(DESTDIR)$(LIBDIR)/pkgconfig/sign.pc"
 
 uninstall:    ## removes the three files of install, with the same PREFIX, LIBDIR, INCLUDEDIR and DESTDIR
 	rm -f "$(DESTDIR)$(LIBDIR)/libsign.a" "$(DESTDIR)$(LIBDIR)/pkgconfig/sign.pc" "$(DESTDIR)$(INCLUDEDIR)/sign.h"

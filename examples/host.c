@@ -87,7 +87,7 @@ int main(void) {
     if (failed(put("Welcome aboard", "Gate 4 \x01\x01\x01", 0))) return 1;
     print_sign();
 
-    printf("bytes %lu, busy %lu us\n", (unsigned long)sign_tally_number(tally, SIGN_BYTES),
-           (unsigned long)sign_tally_number(tally, SIGN_BUSY));
+    printf("bytes %lu, busy %lu us\n", (unsigned long)sign_tally_number(tally, SIGN_NUMBER_BYTES),
+           (unsigned long)sign_tally_number(tally, SIGN_NUMBER_BUSY));
     return 0;
 }

@@ -3,7 +3,8 @@
    Usage: station TTY STATE PICTURES [J6] [HOLD_MS]
    TTY       the wire; its speed and parity are set by stty: stty -F TTY 19200 cs8 parenb -parodd
    STATE     a file for this sign alone, kept between starts: mark, block, tally, TTY, boot
-   PICTURES  a text file, two lines of up to 20 characters for each; '>' is drawn as an arrow
+   PICTURES  a text file, two lines of up to 20 characters for each; '>' is drawn as an arrow. The
+             codes above 7Eh are the module's own, not UTF-8
    J6        0 or 1: the default font, by link J6 (0)
    HOLD_MS   how long each picture stays, in milliseconds (5000)
 
@@ -77,8 +78,8 @@ static uint32_t run(struct state *s, const uint8_t *bytes, size_t n) {
     return sign_run(s->block, SIGN_BLOCK, s->tally, SIGN_TALLY, bytes, n);
 }
 
-static unsigned long counted(enum sign_number which) {
-    return sign_tally_number(sign.tally, which);
+static unsigned long busy(const struct state *s) {
+    return sign_tally_number(s->tally, SIGN_NUMBER_BUSY);
 }
 
 static void wait_us(unsigned long us) {
@@ -167,32 +168,45 @@ static void open_wire(void) {
     if ((t.c_oflag & OPOST) || (t.c_iflag & IXON)) END("%s does not take raw bytes", sign.tty);
 }
 
-/* The only way to the wire. All bytes are run on a copy first, because the module would carry out
-   what the library refuses. Then the mark is put, and each byte is run, sent and given its time. */
-static void to_the_wire(const uint8_t *bytes, size_t n) {
-    struct state copy = sign;
-    uint32_t refusal = run(&copy, bytes, n);
-    if (refusal == SIGN_TALLY_FULL) {
-        SAY("the tally starts again at 0; it was bytes %lu busy %lu flickerless %lu",
-            counted(SIGN_BYTES), counted(SIGN_BUSY), counted(SIGN_FLICKERLESS));
-        memset(sign.tally, 0, SIGN_TALLY);
-        copy = sign;
-        refusal = run(&copy, bytes, n);
+/* Runs bytes on a copy of what we keep, one at a time, and notes how long the module needs for
+   each. In doubt that is not known: it gets the most. Answers 0 or the refusal. */
+static uint32_t run_on(struct state *copy, const uint8_t *bytes, size_t n, unsigned long *pause) {
+    *copy = sign;
+    for (size_t i = 0; i < n; i++) {
+        int flickerless = copy->block[SIGN_FLICKERLESS_AT];
+        unsigned long before = busy(copy);
+        uint32_t refusal = run(copy, bytes + i, 1);
+        if (refusal != SIGN_ACCEPTED) return refusal;
+        pause[i] = (doubt ? MOST_US : busy(copy) - before)
+                 + (doubt || flickerless ? FLICKERLESS_US : 0);
     }
-    if (refusal != 0) END("our own bytes are refused: %s", sign_refusal_text(refusal));
+    return SIGN_ACCEPTED;
+}
+
+/* The only way to the wire. All bytes are run on a copy first, because the module would carry out
+   what the library refuses. Then the mark is put, then they are sent, each with its time behind it;
+   then the copy is what we keep. */
+static void to_the_wire(const uint8_t *bytes, size_t n) {
+    struct state copy;
+    unsigned long pause[SIGN_ROOM];
+    if (n > SIGN_ROOM) END("more bytes than a plan has");
+    uint32_t refusal = run_on(&copy, bytes, n, pause);
+    if (refusal == SIGN_TALLY_FULL) {
+        SAY("the tally starts again at 0; it was: bytes %lu, busy %lu us",
+            (unsigned long)sign_tally_number(sign.tally, SIGN_NUMBER_BYTES), busy(&sign));
+        memset(sign.tally, 0, SIGN_TALLY);
+        refusal = run_on(&copy, bytes, n, pause);
+    }
+    if (refusal != SIGN_ACCEPTED) END("our own bytes are refused: %s", sign_refusal_text(refusal));
     if (n > 0) put_mark();
     for (size_t i = 0; i < n; i++) {
-        int flickerless = sign.block[SIGN_FLICKERLESS_AT];
-        unsigned long before = counted(SIGN_BUSY);
-        refusal = run(&sign, bytes + i, 1);
-        if (refusal != 0) END("our own byte is refused: %s", sign_refusal_text(refusal));
         if (write_all(wire, bytes + i, 1) != 0) FAIL("send to", sign.tty);
-        while (tcdrain(wire) != 0)
+        while (tcdrain(wire) != 0) /* until it has left the port */
             if (errno != EINTR) FAIL("send to", sign.tty);
-        /* in doubt we do not know how long the module takes: it gets the most */
-        wait_us((doubt ? MOST_US : counted(SIGN_BUSY) - before)
-                + (doubt || flickerless ? FLICKERLESS_US : 0));
+        wait_us(pause[i]);
     }
+    copy.mark = sign.mark;
+    sign = copy;
 }
 
 /* Brings the module out of doubt: settings made, glass blank. The mark is put first of all, and

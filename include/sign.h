@@ -29,7 +29,7 @@
 extern "C" {
 #endif
 
-/* The version of the library that this header belongs to: 1.1. */
+/* The version of the library that this header belongs to. */
 #define SIGN_VERSION_MAJOR 1
 #define SIGN_VERSION_MINOR 1
 
@@ -87,7 +87,7 @@ enum sign_refusal {
 #define SIGN_FONT_AT         7   /* the selected font, 0 International or 1 Katakana */
 #define SIGN_DEFAULT_FONT_AT 8   /* the default font, by link J6 */
 #define SIGN_EURO_AT         9   /* 1: ADh in font 0 is the Euro mark */
-#define SIGN_LUMINANCE_AT    10  /* 0 to 3: 25, 50, 75, 100 % */
+#define SIGN_LUMINANCE_AT    10  /* 0 to 3: 25, 50, 75, 100 %; 1Bh 4Ch n sets n / 64 */
 #define SIGN_SPEED_AT        11  /* the blink speed, 0 to 255, in 30 ms */
 #define SIGN_FLICKERLESS_AT  12  /* 1: flickerless writing is on */
 #define SIGN_HALF_AT         13  /* the half-received command: enum sign_half */
@@ -169,11 +169,11 @@ uint32_t sign_underline(const uint8_t *block, size_t block_len, uint32_t code);
 uint32_t sign_lit(const uint8_t *block, size_t block_len, uint32_t code);
 
 /* The numbers of a tally. */
-enum sign_number { SIGN_BYTES = 0, SIGN_BUSY = 1, SIGN_FLICKERLESS = 2 };
+enum sign_number { SIGN_NUMBER_BYTES = 0, SIGN_NUMBER_BUSY = 1, SIGN_NUMBER_FLICKERLESS = 2 };
 
 static inline uint32_t sign_tally_number(const uint8_t *tally, enum sign_number which) {
-    const uint8_t *p = tally + 4 * (int)which;
-    return p[0] | (uint32_t)p[1] << 8 | (uint32_t)p[2] << 16 | (uint32_t)p[3] << 24;
+    const uint8_t *p = tally + 4 * which;
+    return p[0] + 0x100u * p[1] + 0x10000u * p[2] + 0x1000000u * p[3];
 }
 
 /* A refusal in words: the number itself, without the 256 or 65,536. */

@@ -5,6 +5,7 @@
 # - in docs/PROMISES.md, MODULE.md and DECISIONS.md a path in backticks that is not there, below crates/ or
 #   here, or a name behind it, `path: name, name`, that the file does not define. In a section with a line
 #   "Definitions: `path`" each name in backticks is one of that file;
+# - a place in a block that include/sign.h names and the table of docs/HOST.md does not have;
 # - in any file a path of somebody's machine, or a word about how the work was done.
 # shellcheck disable=SC2016,SC2086
 set -eu
@@ -101,12 +102,18 @@ dead_references() {
     done <"$work/references"
 }
 
+missing_places() {
+    sed -n 's/^#define SIGN_[A-Z_]*_AT *\([0-9]*\) .*/\1/p' include/sign.h | while read -r place; do
+        grep -q "^| ${place}[ -]" docs/HOST.md || echo "docs/HOST.md: no row for byte $place of a block"
+    done
+}
+
 # The brackets keep this line from finding itself.
 strangers() { xargs grep -nE '/[o]pt/|/[w]ork/|/[r]oot/[A-Za-z]|[s]ubagent' /dev/null <"$work/files" || true; }
 
 links >"$work/links"
 references >"$work/references"
-{ long_lines; dead_links; dead_references; strangers; } >"$work/wrong"
+{ long_lines; dead_links; dead_references; missing_places; strangers; } >"$work/wrong"
 cat "$work/wrong"
 count() { grep -c . "$work/$1" || true; }
 echo "docs: $(count pages) pages, $(count links) links, $(count references) references, $(count wrong) wrong"

@@ -1,6 +1,6 @@
 /* The fourteen cases of the bench sheet (document 01), pictures of two fonts (request W1), one refusal of
-   each number, and what docs/HOST.md advises (what ends half a command, recovery), through the C functions
-   and the helpers of sign.h. Prints ok, or what failed. */
+   each number, the places and names of sign.h, and what docs/HOST.md advises (what ends half a command,
+   recovery), through the C functions. Prints ok, or what failed. */
 
 #include <stdio.h>
 #include <stdlib.h>
@@ -30,7 +30,7 @@ static void after(const uint8_t *bytes, size_t n) {
 #define AFTER(...) do { const uint8_t b_[] = {__VA_ARGS__}; after(b_, sizeof b_); } while (0)
 
 static uint32_t number(int i) { return sign_tally_number(tally, (enum sign_number)i); }
-static uint32_t busy(void) { return number(SIGN_BUSY); }
+static uint32_t busy(void) { return number(SIGN_NUMBER_BUSY); }
 static int cell(int i) { return block[SIGN_CODES_AT + i]; }
 static int cursor(void) { return block[SIGN_CURSOR_AT]; }
 static uint32_t view(uint32_t position) { return sign_view(block, sizeof block, position); }
@@ -64,7 +64,7 @@ static void bench_sheet(void) {
 
     after(want, 0);
     memcpy(start, block, sizeof start);
-    check("1: power-up", written() == 0 && cursor() == 0 && block[4] == 1 && block[10] == 3 && block[11] == 0x14);
+    check("1: power-up", written() == 0 && cursor() == 0 && block[SIGN_MODE_AT] == 1 && block[SIGN_LUMINANCE_AT] == 3 && block[SIGN_SPEED_AT] == 0x14);
     check("1", run(want, 0) == 0 && memcmp(block, start, sizeof start) == 0 && number(0) == 0 && busy() == 0);
 
     AFTER(0x41);
@@ -97,14 +97,14 @@ static void bench_sheet(void) {
 
     AFTER(0x1B, 0x43, 0x09, 0, 0, 0, 0, 0, 0x09);
     memset(want, 0x20, sizeof want);
-    check("10", cell(0) == 0x09 && written() == 1 && cursor() == 1 && plan(0) == 256 + 8);
+    check("10", cell(0) == 0x09 && written() == 1 && cursor() == 1 && plan(0) == SIGN_REFUSED + SIGN_USER_ON_MOVE);
 
     after(want, 0);
     want[0] = 0x41;
     want[21] = 0x42;
     const uint8_t eleven[] = {0x41, 0x0A, 0x42, 0x0C};
     check("11", planned(plan(0), eleven, sizeof eleven));
-    check("12: run", run(eleven, sizeof eleven) == 0 && memcmp(block + 24, want, 40) == 0 && number(0) == 4 && busy() == 26 && number(2) == 0);
+    check("12: run", run(eleven, sizeof eleven) == 0 && memcmp(block + SIGN_CODES_AT, want, 40) == 0 && number(0) == 4 && busy() == 26 && number(2) == 0);
     check("12", planned(plan(0), eleven, 0));
 
     AFTER(0x1B, 0x48, 0x05);
@@ -133,8 +133,8 @@ static void two_fonts(void) {
     const uint8_t with_euro[] = {0x19, 0x41, 0x18, 0x1A, 0x42, 0x19, 0x43, 0x18, 0x1A, 0x44};
     AFTER(0x1A);
     check("fonts: there and back with Euro on", planned(plan_fonts(4), with_euro, sizeof with_euro));
-    check("fonts: run", run(with_euro, sizeof with_euro) == 0 && memcmp(block + 24, want, 40) == 0);
-    check("fonts: shown", memcmp(block + 64, fonts, 40) == 0 && cursor() == 4 && block[7] == 0 && block[9] == 1);
+    check("fonts: run", run(with_euro, sizeof with_euro) == 0 && memcmp(block + SIGN_CODES_AT, want, 40) == 0);
+    check("fonts: shown", memcmp(block + SIGN_FONTS_AT, fonts, 40) == 0 && cursor() == 4 && block[SIGN_FONT_AT] == 0 && block[SIGN_EURO_AT] == 1);
     check("fonts: planned again", planned(plan_fonts(4), with_euro, 0));
 
     const uint8_t without[] = {0x19, 0x41, 0x18, 0x42, 0x19, 0x43, 0x18, 0x44};
@@ -172,7 +172,7 @@ static void two_fonts(void) {
 
 /* The refusal of sign_plan_fonts with one byte too little room. */
 static uint32_t refused(size_t block_len, size_t codes_len, size_t fonts_len, uint32_t asked) {
-    return sign_plan_fonts(block, block_len, want, codes_len, fonts, fonts_len, asked, out, SIGN_FONTS_ROOM - 1) - 256;
+    return sign_plan_fonts(block, block_len, want, codes_len, fonts, fonts_len, asked, out, SIGN_FONTS_ROOM - 1) - SIGN_REFUSED;
 }
 
 /* Each number where much that has a higher one is wrong too. */
@@ -184,26 +184,26 @@ static void fonts_refusals(void) {
     memset(out, 0xEE, sizeof out);
     AFTER(0x1B, 0x43, 0x19, 0, 0, 0, 0, 0, 0x12, 0x1B);
     block[500] = 1;
-    check("fonts 1: fonts", refused(512, 40, 39, 40) == 1 && refused(512, 40, 41, 40) == 1 && refused(512, 40, 0, 40) == 1);
-    check("fonts 1", refused(511, 40, 40, 40) == 1 && refused(512, 39, 40, 40) == 1);
-    check("fonts 2", refused(512, 40, 40, 40) == 2);
+    check("fonts 1: fonts", refused(512, 40, 39, 40) == SIGN_WRONG_LENGTH && refused(512, 40, 41, 40) == SIGN_WRONG_LENGTH && refused(512, 40, 0, 40) == SIGN_WRONG_LENGTH);
+    check("fonts 1", refused(511, 40, 40, 40) == SIGN_WRONG_LENGTH && refused(512, 39, 40, 40) == SIGN_WRONG_LENGTH);
+    check("fonts 2", refused(512, 40, 40, 40) == SIGN_DAMAGED);
     block[500] = 0;
     memcpy(kept, block, sizeof kept);
-    check("fonts 3: font", refused(512, 40, 40, 0) == 3);
+    check("fonts 3: font", refused(512, 40, 40, 0) == SIGN_OUT_OF_RANGE);
     fonts[8] = 0;
-    check("fonts 3: cursor", refused(512, 40, 40, 40) == 3);
-    check("fonts 6", refused(512, 40, 40, 0) == 6);
+    check("fonts 3: cursor", refused(512, 40, 40, 40) == SIGN_OUT_OF_RANGE);
+    check("fonts 6", refused(512, 40, 40, 0) == SIGN_HALF_RECEIVED);
     check("fonts: the block stays", memcmp(block, kept, sizeof kept) == 0);
     AFTER(0x1B, 0x43, 0x19, 0, 0, 0, 0, 0, 0x12);
-    check("fonts 7", refused(512, 40, 40, 0) == 7);
+    check("fonts 7", refused(512, 40, 40, 0) == SIGN_WRONG_MODE);
     for (uint8_t code = 0x17; code <= 0x1A; code++) {
         AFTER(0x1B, 0x43, code, 0, 0, 0, 0, 0);
-        check("fonts 8 for 18h, 19h and 1Ah", refused(512, 40, 40, 0) == (code == 0x17 ? 9 : 8));
+        check("fonts 8 for 18h, 19h and 1Ah", refused(512, 40, 40, 0) == (code == 0x17 ? SIGN_NO_CHARACTER : SIGN_USER_ON_MOVE));
     }
     after(want, 0);
-    check("fonts 9", refused(512, 40, 40, 0) == 9);
+    check("fonts 9", refused(512, 40, 40, 0) == SIGN_NO_CHARACTER);
     want[7] = 0x20;
-    check("fonts 10", refused(512, 40, 40, 0) == 10);
+    check("fonts 10", refused(512, 40, 40, 0) == SIGN_NO_ROOM);
     check("fonts: out stays", planned(0, out, 0));
     check("fonts: enough room", plan_fonts(0) < 256);
 }
@@ -213,32 +213,70 @@ static void refusals(void) {
     uint8_t kept[SIGN_BLOCK], zero[SIGN_TALLY] = {0};
     after(want, 0);
     memcpy(kept, block, sizeof kept);
-    check("run 1", sign_run(block, 511, tally, 12, want, 1) == 1 && sign_run(block, 512, tally, 11, want, 1) == 1);
-    check("run 4", run(longest, sizeof longest) == 4);
+    check("run 1", sign_run(block, 511, tally, SIGN_TALLY, want, 1) == SIGN_WRONG_LENGTH
+        && sign_run(block, 512, tally, SIGN_TALLY - 1, want, 1) == SIGN_WRONG_LENGTH);
+    check("run 4", run(longest, sizeof longest) == SIGN_TOO_LONG);
     tally[3] = 0xFF;
-    check("run 3", run(want, 0) == 3);
+    check("run 3", run(want, 0) == SIGN_OUT_OF_RANGE);
     memcpy(tally, "\x00\x28\x6B\xEE", 4); /* 4,000,000,000 */
     check("run at the limit", run(want, 0) == 0);
-    check("run 5", run(want, 1) == 5);
+    check("run 5", run(want, 1) == SIGN_TALLY_FULL);
     memset(tally, 0, sizeof tally);
     block[100] ^= 1;
-    check("run 2", run(want, 1) == 2 && plan(0) == 256 + 2);
+    check("run 2", run(want, 1) == SIGN_DAMAGED && plan(0) == SIGN_REFUSED + SIGN_DAMAGED);
     block[100] ^= 1;
     check("nothing changed", memcmp(block, kept, sizeof kept) == 0 && memcmp(tally, zero, sizeof zero) == 0);
-    check("plan 1", sign_plan(block, 512, want, 39, 0, out, 44) == 256 + 1);
-    check("plan 3", plan(40) == 256 + 3 && plan(256 + 5) == 256 + 3);
+    check("plan 1", sign_plan(block, 512, want, 39, 0, out, 44) == SIGN_REFUSED + SIGN_WRONG_LENGTH);
+    check("plan 3", plan(40) == SIGN_REFUSED + SIGN_OUT_OF_RANGE && plan(256 + 5) == SIGN_REFUSED + SIGN_OUT_OF_RANGE);
     AFTER(0x1B);
-    check("plan 6", plan(0) == 256 + 6);
+    check("plan 6", plan(0) == SIGN_REFUSED + SIGN_HALF_RECEIVED);
     AFTER(0x12);
-    check("plan 7", plan(0) == 256 + 7);
+    check("plan 7", plan(0) == SIGN_REFUSED + SIGN_WRONG_MODE);
     after(want, 0);
     want[7] = 0x1F;
-    check("plan 9", plan(0) == 256 + 9);
+    check("plan 9", plan(0) == SIGN_REFUSED + SIGN_NO_CHARACTER);
     want[7] = 0x20;
-    check("plan 10", sign_plan(block, 512, want, 40, 0, out, 43) == 256 + 10);
+    check("plan 10", sign_plan(block, 512, want, 40, 0, out, 43) == SIGN_REFUSED + SIGN_NO_ROOM);
     check("longest run", run(longest, SIGN_MOST) == 0 && number(0) == SIGN_MOST && busy() == 6 * SIGN_MOST);
-    check("power-up 3", sign_power_up(2, block, 511) == 3);
-    check("power-up 10", sign_power_up(1, block, 511) == 10);
+    check("power-up 3", sign_power_up(2, block, 511) == SIGN_OUT_OF_RANGE);
+    check("power-up 10", sign_power_up(1, block, 511) == SIGN_NO_ROOM);
+}
+
+/* After these bytes, from power-up font 0, one byte of the block's first 510 is another, here, and is this. */
+static void only(size_t at, int value, const char *bytes) {
+    uint8_t start[SIGN_BLOCK];
+    int differ = 0;
+    after(want, 0);
+    memcpy(start, block, sizeof start);
+    check("run", run((const uint8_t *)bytes, strlen(bytes)) == SIGN_ACCEPTED);
+    for (int i = 0; i < SIGN_BLOCK - 2; i++) differ += block[i] != start[i];
+    check("a place of the header", differ == 1 && block[at] == value);
+}
+
+/* The header's places in a block. */
+static void places(void) {
+    only(SIGN_CURSOR_AT, 5, "\x1BH\x05");
+    only(SIGN_MODE_AT, 2, "\x12");
+    only(SIGN_SHOWN_AT, 1, "\x15");
+    only(SIGN_FONT_AT, 1, "\x19");
+    only(SIGN_EURO_AT, 1, "\x1A");
+    only(SIGN_LUMINANCE_AT, 1, "\x1BL\x40");
+    only(SIGN_SPEED_AT, 7, "\x1BT\x07");
+    only(SIGN_FLICKERLESS_AT, 1, "\x1BS");
+    only(SIGN_HALF_AT, SIGN_HALF_ESC, "\x1B");
+    only(SIGN_HALF_AT, SIGN_HALF_POSITION, "\x1BH");
+    only(SIGN_HALF_AT, SIGN_HALF_LUMINANCE, "\x1BL");
+    only(SIGN_HALF_AT, SIGN_HALF_SPEED, "\x1BT");
+    only(SIGN_HALF_AT, SIGN_HALF_USER_CODE, "\x1B" "C");
+    only(SIGN_CODES_AT + 39, 'A', "\x1BH\x27" "A");
+    AFTER(0x13, 0x1B, 0x48, 0x13, 0x19, 'A');
+    check("scroll-on", block[SIGN_SCROLL_ON_AT] == 1 && block[SIGN_FONTS_AT + 19] == 1 && block[SIGN_FONTS_AT + 18] == 0);
+    AFTER(0x1B, 0x43, 0x81, 0x11, 0x12, 0x13, 0x14, 0x05, 0x1B, 0x43, 0x82, 0xA1, 0xA2, 0xA3);
+    check("user characters", block[SIGN_USER_COUNT_AT] == 1 && memcmp(block + SIGN_USERS_AT, "\x81\x11\x12\x13\x14\x05", SIGN_USER_BYTES) == 0);
+    check("user data", block[SIGN_HALF_AT] == SIGN_HALF_USER_DATA && block[SIGN_HALF_CODE_AT] == 0x82
+        && block[SIGN_HELD_COUNT_AT] == 3 && memcmp(block + SIGN_HELD_AT, "\xA1\xA2\xA3", 4) == 0);
+    check("default font", sign_power_up(1, block, sizeof block) == SIGN_ACCEPTED && block[SIGN_DEFAULT_FONT_AT] == 1);
+    check("then 18h", run((const uint8_t[]){0x18}, 1) == SIGN_ACCEPTED && block[SIGN_DEFAULT_FONT_AT] == 1 && block[SIGN_FONT_AT] == 0);
 }
 
 static void questions(void) {
@@ -246,12 +284,12 @@ static void questions(void) {
     check("view: both fonts", view(0) == SIGN_INTERNATIONAL + 0x41 && view(1) == SIGN_KATAKANA + 0x42);
     check("view: user character, blank space", view(2) == SIGN_USER + 0x01 && view(3) == SIGN_INTERNATIONAL + 0x20);
     check("underline", sign_underline(block, 512, 1) == 1 && sign_lit(block, 512, 1) == 0 && sign_dot(block, 512, 1, 35) == 0);
-    check("view 3", view(40) == SIGN_ASKED_REFUSED + 3 && view(256) == SIGN_ASKED_REFUSED + 3);
-    check("dot 3", sign_dot(block, 512, 1, 0) == 65536 + 3 && sign_dot(block, 512, 1, 36) == 65536 + 3);
-    check("asked 3", sign_lit(block, 512, 257) == 65536 + 3 && sign_underline(block, 512, 2) == 65536 + 3);
-    check("asked 1", sign_view(block, 511, 0) == 65536 + 1 && sign_lit(block, 513, 1) == 65536 + 1);
+    check("view 3", view(40) == SIGN_ASKED_REFUSED + SIGN_OUT_OF_RANGE && view(256) == SIGN_ASKED_REFUSED + SIGN_OUT_OF_RANGE);
+    check("dot 3", sign_dot(block, 512, 1, 0) == SIGN_ASKED_REFUSED + SIGN_OUT_OF_RANGE && sign_dot(block, 512, 1, 36) == SIGN_ASKED_REFUSED + SIGN_OUT_OF_RANGE);
+    check("asked 3", sign_lit(block, 512, 257) == SIGN_ASKED_REFUSED + SIGN_OUT_OF_RANGE && sign_underline(block, 512, 2) == SIGN_ASKED_REFUSED + SIGN_OUT_OF_RANGE);
+    check("asked 1", sign_view(block, 511, 0) == SIGN_ASKED_REFUSED + SIGN_WRONG_LENGTH && sign_lit(block, 513, 1) == SIGN_ASKED_REFUSED + SIGN_WRONG_LENGTH);
     block[100] ^= 1;
-    check("asked 2", view(0) == 65536 + 2 && sign_dot(block, 512, 1, 1) == 65536 + 2);
+    check("asked 2", view(0) == SIGN_ASKED_REFUSED + SIGN_DAMAGED && sign_dot(block, 512, 1, 1) == SIGN_ASKED_REFUSED + SIGN_DAMAGED);
     for (uint32_t n = SIGN_ACCEPTED; n <= SIGN_NO_ROOM; n++)
         check("each refusal in words", strcmp(sign_refusal_text(n), sign_refusal_text(SIGN_NO_ROOM + 1)) != 0);
 }
@@ -293,7 +331,7 @@ static void half_received(void) {
                 check("a user character", run(define, sizeof define) == 0);
             }
             memcpy(before, block, sizeof before);
-            check("half a command", run((const uint8_t *)halves[i], strlen(halves[i])) == 0 && plan(0) == 256 + 6);
+            check("half a command", run((const uint8_t *)halves[i], strlen(halves[i])) == 0 && plan(0) == SIGN_REFUSED + SIGN_HALF_RECEIVED);
             int defines = block[SIGN_HALF_AT] == SIGN_HALF_USER_DATA || (block[SIGN_HALF_AT] == SIGN_HALF_USER_CODE && users == 0);
             check("its end", run(end, ending(end)) == 0 && block[SIGN_HALF_AT] == SIGN_HALF_NONE);
             if (defines) check("a user character more", block[SIGN_USER_COUNT_AT] == (users == 16 ? 16 : users + 1));
@@ -313,21 +351,21 @@ static void half_received(void) {
 static void advice(void) {
     memset(want, 0x20, sizeof want);
     AFTER(0x13);
-    check("263: 11h", plan(0) == 256 + 7 && run((const uint8_t[]){0x11}, 1) == 0 && plan(0) < 256);
+    check("263: 11h", plan(0) == SIGN_REFUSED + SIGN_WRONG_MODE && run((const uint8_t[]){0x11}, 1) == 0 && plan(0) < 256);
     AFTER(0x1B, 0x43, 0x11, 0, 0, 0, 0, 0, 0x12);
-    check("263: a user character on 11h", run((const uint8_t[]){0x11}, 1) == 0 && plan(0) == 256 + 7);
+    check("263: a user character on 11h", run((const uint8_t[]){0x11}, 1) == 0 && plan(0) == SIGN_REFUSED + SIGN_WRONG_MODE);
     check("263: recovery", run(recovery, sizeof recovery) == 0 && plan(0) < 256);
     AFTER(0x1B, 0x43, 0x0A, 0, 0, 0, 0, 0);
-    check("264: recovery", plan(0) == 256 + 8 && run(recovery, sizeof recovery) == 0 && plan(0) < 256);
+    check("264: recovery", plan(0) == SIGN_REFUSED + SIGN_USER_ON_MOVE && run(recovery, sizeof recovery) == 0 && plan(0) < 256);
     AFTER(0x1B, 0x43, 0x1B, 0, 0, 0, 0, 0);
-    check("264: a user character on 1Bh", run(recovery, sizeof recovery) == 0 && plan(0) == 256 + 8);
+    check("264: a user character on 1Bh", run(recovery, sizeof recovery) == 0 && plan(0) == SIGN_REFUSED + SIGN_USER_ON_MOVE);
     AFTER(0x1B, 0x43, 0x1B);
-    check("1Bh is just becoming one", run(recovery, sizeof recovery) == 0 && plan(0) == 256 + 8);
+    check("1Bh is just becoming one", run(recovery, sizeof recovery) == 0 && plan(0) == SIGN_REFUSED + SIGN_USER_ON_MOVE);
     AFTER(0x1B, 0x43);
     check("1Bh 49h makes it one", run(recovery + 6, 2) == 0 && block[SIGN_HALF_CODE_AT] == 0x1B);
     after(want, 0);
     memcpy(tally, "\x00\x28\x6B\xEE", 4); /* 4,000,000,000 */
-    check("5: a tally of 0", run(want, 1) == 5 && memset(tally, 0, sizeof tally) != NULL && run(want, 1) == 0);
+    check("5: a tally of 0", run(want, 1) == SIGN_TALLY_FULL && memset(tally, 0, sizeof tally) != NULL && run(want, 1) == 0);
 }
 
 int main(int argc, char **argv) {
@@ -339,6 +377,7 @@ int main(int argc, char **argv) {
     fonts_refusals();
     memset(want, 0x20, sizeof want);
     refusals();
+    places();
     questions();
     half_received();
     advice();

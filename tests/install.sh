@@ -8,7 +8,7 @@ need c
 command -v pkg-config >/dev/null || install_packages pkg-config
 unset PREFIX LIBDIR INCLUDEDIR DESTDIR MAKEFLAGS MFLAGS
 umask 077
-work=$(mktemp -d)
+work=$(TMPDIR=/tmp mktemp -d) # a PREFIX has no blank, and TMPDIR may have one
 trap 'rm -rf "$work"' EXIT
 trap 'exit 1' HUP INT TERM
 

@@ -33,6 +33,9 @@ c_program() { # NAME FILE
     $CC -std=c11 -pedantic -Wall -Wextra -O2 -Iinclude -static -o "$out/$1" "$2" target/staticlib/libsign.a
 }
 
+# fence PAGE NAME: what the page has between ```NAME and ```
+fence() { sed -n "/^\`\`\`$2\$/,/^\`\`\`\$/p" "$1" | sed '1d;$d'; }
+
 # advised FIRST: the bytes that docs/HOST.md gives in backticks, eight of them, beginning with this one
 advised() { sed -n "s/.*\`\($1\( [0-9A-F][0-9A-F]\)\{7\}\)\`.*/\1/p" docs/HOST.md; }
 
@@ -98,10 +101,19 @@ example)
     $RUN "$out/example" >"$out/example.txt"
     cat "$out/example.txt"
     diff examples/host.txt "$out/example.txt"
-    # the lines that the README shows
-    sed -n '/^```c$/,/^```$/p' README.md | sed '1d;$d' >"$out/readme.c"
-    $CC -std=c11 -pedantic -Wall -Wextra -Werror -Iinclude -c -o "$out/readme.o" "$out/readme.c"
-    grep -q sign_run "$out/readme.c"
+    # the lines in C that README and docs/HOST.md show
+    fence README.md c >"$out/readme.c"
+    {
+        for name in fcntl sys/file termios unistd; do echo "#include <$name.h>"; done
+        echo 'int open_port(void);'
+        echo 'int open_port(void) {'
+        fence docs/HOST.md c
+        echo 'return port; }'
+    } >"$out/port.c"
+    for name in readme port; do
+        $CC -std=c11 -pedantic -Wall -Wextra -Werror -D_DEFAULT_SOURCE -Iinclude -c -o "$out/$name.o" "$out/$name.c"
+    done
+    grep -q sign_run "$out/readme.c" && grep -q tcsetattr "$out/port.c"
     ;;
 station)
     c_program station-host examples/station.c
@@ -111,16 +123,14 @@ station)
     ;;
 dump)
     c_program dump tests/dump.c
-    # fence NAME: what docs/HOST.md has between ```NAME and ```
-    fence() { sed -n "/^\`\`\`$1/,/^\`\`\`\$/p" docs/HOST.md | sed '1d;$d'; }
     $RUN "$out/dump" >"$out/dump.txt"
-    fence dump | diff - "$out/dump.txt"
+    fence docs/HOST.md dump | diff - "$out/dump.txt"
     # the user character: its bytes give the dots that are drawn, their count, and stand beside the drawing
     bytes=$(advised 1B)
     # shellcheck disable=SC2086
     $RUN "$out/dump" $bytes >"$out/dots.txt"
-    { fence dots | cut -c 1-9 && grep -o '([0-9]* dots are lit)' docs/HOST.md; } | diff - "$out/dots.txt"
-    beside=$(fence dots | sed -n 's/.* = \([0-9A-F][0-9A-F]\)h$/\1/p' | tr '\n' ' ')
+    { fence docs/HOST.md dots | cut -c 1-9 && grep -o '([0-9]* dots are lit)' docs/HOST.md; } | diff - "$out/dots.txt"
+    beside=$(fence docs/HOST.md dots | sed -n 's/.* = \([0-9A-F][0-9A-F]\)h$/\1/p' | tr '\n' ' ')
     [ "1B 43 01 $beside" = "$bytes " ]
     ;;
 install)

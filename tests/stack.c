@@ -163,7 +163,6 @@ int main(void) {
         inputs();
     }
     for (int i = 0; i < ENTRIES; i++) {
-        if (entry[i].function == 0) continue;
         if (entry[i].calls[0] < 9 || entry[i].calls[1] < 4) {
             fprintf(stderr, "stack: %s: accepted %d times and refused %d times: too few\n", entry[i].name, entry[i].calls[0], entry[i].calls[1]);
             return 1;

@@ -12,7 +12,6 @@ use module::*;
 use report::{first_difference, hex, Report};
 use rng::Rng;
 use sign::Lent;
-use std::alloc::{alloc_zeroed, dealloc, Layout};
 
 struct Host {
     report: Report,
@@ -647,68 +646,66 @@ fn threads(h: &mut Host) {
     }
 }
 
-/// Lengths of four gigabytes and some: not cut to 32 bits. The memory is only lent, never touched.
+/// Lengths of four gigabytes and some: not cut to 32 bits.
 fn giant_lengths(h: &mut Host) {
-    for &extra in &[12usize, 40, 43, 44, 103, 104, 511, 512] {
-        let n = (1usize << 32) + extra;
-        let layout = Layout::from_size_align(n, 16).unwrap();
-        let p = unsafe { alloc_zeroed(layout) };
-        if p.is_null() {
-            println!("host: not tried: lengths above four gigabytes (this machine does not lend so much)");
+    for some in [12, 40, 43, 44, 103, 104, 511, 512] {
+        if !sign::with_giant(some, |giant| giant_length(h, giant)) {
             return;
         }
-        let giant = unsafe { std::slice::from_raw_parts_mut(p, n) };
-        let block = Condition::power_up(0).to_block();
-        let mut small = block;
-        let mut t = ZERO;
-        let mut out = [0u8; FONTS_ROOM];
-        let (codes, fonts) = ([0x41; CELLS], [0; CELLS]);
-
-        giant[..BLOCK].copy_from_slice(&block);
-        let a = sign::run(giant, &mut t, &[0x41]);
-        let b = sign::plan(giant, &codes, 0, &mut out);
-        let d = sign::plan_fonts(giant, &codes, &fonts, 0, &mut out);
-        h.report.expect(a == 1 && b == 257 && d == 257, || {
-            format!("block of {} bytes: answers {}, {} and {}", n, a, b, d)
-        });
-        h.report
-            .expect(giant[..BLOCK] == block && t == ZERO && out == [0; FONTS_ROOM], || {
-                "a giant block changed".to_string()
-            });
-        giant[..BLOCK].fill(0);
-
-        let a = sign::run(&mut small, giant, &[0x41]);
-        let b = sign::run(&mut small, &mut t, giant);
-        h.report.expect(a == 1 && b == 4, || {
-            format!("tally or run of {} bytes: answers {} and {}", n, a, b)
-        });
-        let a = sign::plan(&small, giant, 0, &mut out);
-        let b = sign::plan_fonts(&small, giant, &fonts, 0, &mut out);
-        let d = sign::plan_fonts(&small, &codes, giant, 0, &mut out);
-        h.report.expect(a == 257 && b == 257 && d == 257, || {
-            format!("{} codes or fonts: answers {}, {} and {}", n, a, b, d)
-        });
-        h.report
-            .expect(small == block && t == ZERO && out == [0; FONTS_ROOM], || {
-                "a refused call changed something".to_string()
-            });
-
-        for lent in [None, Some(&fonts[..])] {
-            let a = sign::plan_either(&small, &codes, lent, 39, giant);
-            h.report
-                .expect(a == 43 && giant[..40] == codes && giant[43..1_000] == [0; 957], || {
-                    format!("plan into {} bytes: answer {}", n, a)
-                });
-            giant[..43].fill(0);
-        }
-        let a = sign::power_up(0, giant);
-        h.report.expect(
-            a == 0 && giant[..BLOCK] == block && giant[BLOCK..1_000] == [0; 488],
-            || format!("power-up into {} bytes: answer {}", n, a),
-        );
-        h.report.cases += 11;
-        unsafe { dealloc(p, layout) };
     }
+}
+
+fn giant_length(h: &mut Host, giant: &mut [u8]) {
+    let n = giant.len();
+    let block = Condition::power_up(0).to_block();
+    let mut small = block;
+    let mut t = ZERO;
+    let mut out = [0u8; FONTS_ROOM];
+    let (codes, fonts) = ([0x41; CELLS], [0; CELLS]);
+
+    giant[..BLOCK].copy_from_slice(&block);
+    let a = sign::run(giant, &mut t, &[0x41]);
+    let b = sign::plan(giant, &codes, 0, &mut out);
+    let d = sign::plan_fonts(giant, &codes, &fonts, 0, &mut out);
+    h.report.expect(a == 1 && b == 257 && d == 257, || {
+        format!("block of {} bytes: answers {}, {} and {}", n, a, b, d)
+    });
+    h.report
+        .expect(giant[..BLOCK] == block && t == ZERO && out == [0; FONTS_ROOM], || {
+            "a giant block changed".to_string()
+        });
+    giant[..BLOCK].fill(0);
+
+    let a = sign::run(&mut small, giant, &[0x41]);
+    let b = sign::run(&mut small, &mut t, giant);
+    h.report.expect(a == 1 && b == 4, || {
+        format!("tally or run of {} bytes: answers {} and {}", n, a, b)
+    });
+    let a = sign::plan(&small, giant, 0, &mut out);
+    let b = sign::plan_fonts(&small, giant, &fonts, 0, &mut out);
+    let d = sign::plan_fonts(&small, &codes, giant, 0, &mut out);
+    h.report.expect(a == 257 && b == 257 && d == 257, || {
+        format!("{} codes or fonts: answers {}, {} and {}", n, a, b, d)
+    });
+    h.report
+        .expect(small == block && t == ZERO && out == [0; FONTS_ROOM], || {
+            "a refused call changed something".to_string()
+        });
+
+    for lent in [None, Some(&fonts[..])] {
+        let a = sign::plan_either(&small, &codes, lent, 39, giant);
+        h.report
+            .expect(a == 43 && giant[..40] == codes && giant[43..1_000] == [0; 957], || {
+                format!("plan into {} bytes: answer {}", n, a)
+            });
+        giant[..43].fill(0);
+    }
+    let a = sign::power_up(0, giant);
+    h.report.expect(
+        a == 0 && giant[..BLOCK] == block && giant[BLOCK..1_000] == [0; 488],
+        || format!("power-up into {} bytes: answer {}", n, a),
+    );
+    h.report.cases += 11;
 }
 
 fn main() {

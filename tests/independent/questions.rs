@@ -12,7 +12,6 @@ use module::*;
 use report::{hex, Report};
 use rng::Rng;
 use sign::Lent;
-use std::alloc::{alloc_zeroed, dealloc, Layout};
 
 const NAMES: [&str; 4] = ["sign_view", "sign_dot", "sign_underline", "sign_lit"];
 
@@ -169,29 +168,21 @@ fn refused_blocks(q: &mut Questions, c: &Condition) {
     }
 }
 
-/// A length of four gigabytes and 512 is not cut to 512. The memory is only lent, hardly touched.
+/// A length of four gigabytes and 512 is not cut to 512.
 fn giant_block(q: &mut Questions, c: &Condition) {
-    let n = (1usize << 32) + BLOCK;
-    let layout = Layout::from_size_align(n, 16).unwrap();
-    let p = unsafe { alloc_zeroed(layout) };
-    if p.is_null() {
-        println!("questions: not tried: a length above four gigabytes (this machine does not lend so much)");
-        return;
-    }
-    let giant = unsafe { std::slice::from_raw_parts_mut(p, n) };
-    giant[..BLOCK].copy_from_slice(&c.to_block());
     let code = c.users[0].code as u32;
-    let got = [
-        sign::view(giant, 0),
-        sign::dot(giant, code, 1),
-        sign::underline(giant, code),
-        sign::lit(giant, code),
-    ];
-    q.report.expect(got == [65_537; 4], || {
-        format!("block of {} bytes: answers {:?}", n, got)
+    sign::with_giant(BLOCK, |giant| {
+        giant[..BLOCK].copy_from_slice(&c.to_block());
+        let got = [
+            sign::view(giant, 0),
+            sign::dot(giant, code, 1),
+            sign::underline(giant, code),
+            sign::lit(giant, code),
+        ];
+        q.report
+            .expect(got == [65_537; 4], || format!("a giant block: answers {:?}", got));
+        q.report.cases += 4;
     });
-    q.report.cases += 4;
-    unsafe { dealloc(p, layout) };
 }
 
 /// Four threads ask about one block that they share.

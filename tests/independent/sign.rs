@@ -2,6 +2,7 @@
 #![allow(dead_code)]
 
 use crate::rng::Rng;
+use std::alloc::{alloc_zeroed, dealloc, Layout};
 
 extern "C" {
     fn sign_run(
@@ -108,6 +109,20 @@ pub fn underline(block: &[u8], code: u32) -> u32 {
 
 pub fn lit(block: &[u8], code: u32) -> u32 {
     unsafe { sign_lit(block.as_ptr(), block.len(), code) }
+}
+
+/// Lends four gigabytes and some bytes, all 0, which are hardly touched. False where the machine does not have them.
+pub fn with_giant<F: FnOnce(&mut [u8])>(some: usize, call: F) -> bool {
+    let n = (1usize << 32) + some;
+    let layout = Layout::from_size_align(n, 16).unwrap();
+    let p = unsafe { alloc_zeroed(layout) };
+    if p.is_null() {
+        println!("not tried: lengths above four gigabytes (this machine does not lend so much)");
+        return false;
+    }
+    call(unsafe { std::slice::from_raw_parts_mut(p, n) });
+    unsafe { dealloc(p, layout) };
+    true
 }
 
 /// Bytes to lend, at any alignment, between guard bytes.

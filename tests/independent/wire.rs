@@ -128,11 +128,10 @@ impl Wire {
         line.received = Tally::ZERO;
     }
 
-    /// Waits until the module has received so many bytes, or a second.
+    /// Waits until the module has received so many bytes.
     pub fn wait_for(&self, bytes: u64) {
         let short = |l: &mut Line| l.received.bytes < bytes;
-        let second = Duration::from_secs(1);
-        drop(self.line.1.wait_timeout_while(self.line(), second, short));
+        drop(self.line.1.wait_timeout_while(self.line(), PATIENCE, short));
     }
 
     /// Waits until the module has taken all that was sent. What is written to the terminal may come out
@@ -161,10 +160,12 @@ pub struct Host {
 }
 
 impl Host {
-    pub fn start(words: &[String]) -> Host {
+    /// Starts it; what it says on standard error comes into a file.
+    pub fn start(words: &[String], said: &str) -> Host {
         let mut command = Command::new(&words[0]);
         command.args(&words[1..]).stdin(Stdio::null());
-        let command = command.stdout(Stdio::piped()).stderr(Stdio::null());
+        let said = File::create(said).expect("a file for what it says");
+        let command = command.stdout(Stdio::piped()).stderr(said);
         let mut child = command.spawn().expect("the host starts");
         let mut out = BufReader::new(child.stdout.take().unwrap());
         let (sender, lines) = channel();

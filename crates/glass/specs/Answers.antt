@@ -25,10 +25,9 @@ viewAnswer c position =
 abbrev pub refused : Answer
 refused = record { refusal = 3; value = 0 }
 
--- the user character of a code. 3: condition not well formed, or user character asked for but not defined. 01: code 0 to 255, so
--- a number above has none
+-- the user character of a code. 3: condition not well formed, or user character asked for but not defined
 unfoldable pub lookupOf : Condition → ℕ → Found
-lookupOf c code = cond (wellFormed c && leb code 255) (foundOf (c .users) code) Missing
+lookupOf c code = cond (wellFormed c) (foundOf (c .users) code) Missing
 
 -- a question about the user character that a lookup found
 abbrev pub askedOf : Found → Condition → (Character → ℕ) → Answer

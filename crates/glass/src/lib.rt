@@ -1,6 +1,6 @@
 // What the glass shows of a condition: what a cell shows, and the dots of a user character.
 ghost use mathlib.Core.Path.{_≡_};
-ghost use Rattle.users.specs.Users.{characterAt};
+ghost use Rattle.users.specs.Users.{foundIn, characterAt};
 ghost use Rattle.glass.specs.Shows.{showsCode, euroOr};
 ghost use Rattle.glass.specs.Answers.{viewAnswer, lookupOf, dotAnswer, underlineAnswer, litAnswer};
 use condition::Condition;
@@ -75,19 +75,26 @@ pub fn view(c: Condition, position: u32) -> Seen
     }
 }
 
-// The user character of a code, where the condition is well formed and it is defined; none has a code above 255.
+// The place of a code among the first `count`. Any number may be asked for; none above 255 is a code.
+fn found(bytes: &[u8], count: u8, code: u32) -> Found
+    ensures { λ r. ⌜ r ≡ foundIn (now (bytes .entry)) count code ⌝ }
+{
+    if 255 < code {
+        return Found::Missing;
+    }
+    users::find(bytes, count, code as u8)
+}
+
+// The user character of a code, where the condition is well formed and it is defined.
 fn lookup(c: Condition, code: u32) -> Found
     ensures { λ r. ⌜ r ≡ lookupOf c code ⌝ }
 {
     if !c.well_formed() {
         return Found::Missing;
     }
-    if 255 < code {
-        return Found::Missing;
-    }
     let u = c.users;
     let bytes = u.bytes;
-    users::find(&bytes, u.count, code as u8)
+    found(&bytes, u.count, code)
 }
 
 fn drawn(c: Condition, place: usize) -> Character

@@ -1,47 +1,41 @@
 -- What the C host program is told of the glass (document 01, What a cell shows): the same as reading the block and asking.
 use Prim.Native.Nat.{ℕ, _+_}
-use mathlib.Core.Bool.{cond}
+use mathlib.Core.Bool.{true, cond}
 use mathlib.Core.List.{List}
 use lib.Dec.{eqb}
 use Rattle.glass.specs.declared.Shows.{Shows}
 use Rattle.glass.specs.declared.Shows.the-variants.{Blank, User, Euro, BuiltIn}
-use Rattle.glass.specs.declared.Seen.{Seen}
 use Rattle.glass.specs.declared.Answer.{Answer}
 use Rattle.glass.specs.Answers.{viewAnswer, dotAnswer, underlineAnswer, litAnswer}
 use Rattle.layout.specs.Layout.{conditionIn}
-use Rattle.block.specs.Reading.{readRefusal}
+use Rattle.sign.specs.Host.{hostRefusalBy}
 
--- what a cell shows, as a number: 0 blank, 256 + code a user character, 512 Euro, 768 + code built-in in font 0, 1024 + code in font 1
-abbrev pub builtIn : ℕ → ℕ → ℕ
-builtIn code font = cond (eqb font 0) (768 + code) (1024 + code)
+-- what a cell shows, as a number: 0 blank, 256 + code a user character, 512 Euro, 768 + code built-in in font 0, 1024 + code in
+-- font 1
+abbrev pub builtInNumber : ℕ → ℕ → ℕ
+builtInNumber code font = cond (eqb font 0) (768 + code) (1024 + code)
 
-abbrev pub shownAs : Shows → ℕ
-shownAs Blank = 0
-shownAs (User code) = 256 + code
-shownAs Euro = 512
-shownAs (BuiltIn code font) = builtIn code font
+abbrev pub showsNumber : Shows → ℕ
+showsNumber Blank = 0
+showsNumber (User code) = 256 + code
+showsNumber Euro = 512
+showsNumber (BuiltIn code font) = builtInNumber code font
 
 -- a question answers its value, or 65,536 plus the refusal
 unfoldable pub askedAs : ℕ → ℕ → ℕ
 askedAs refusal value = cond (eqb refusal 0) value (65536 + refusal)
 
--- the refusal of the first of two that refuses, or 0. The first is also the lowest: reading gives 1, 2 or 3, a question 3
-abbrev pub earlier : ℕ → ℕ → ℕ
-earlier n m = cond (eqb n 0) m n
-
 -- 1, 2 and 3: as reading the block; 3: as the question about the condition that stands there
 unfoldable pub hostAsked : List ℕ → ℕ → ℕ → ℕ
-hostAsked b refusal value = askedAs (earlier (readRefusal b) refusal) value
-
-abbrev pub hostSeen : List ℕ → Seen → ℕ
-hostSeen b seen = hostAsked b (seen .refusal) (shownAs (seen .shows))
+hostAsked b refusal value = askedAs (hostRefusalBy true b refusal) value
 
 abbrev pub hostTold : List ℕ → Answer → ℕ
 hostTold b a = hostAsked b (a .refusal) (a .value)
 
 -- what `sign_view`, `sign_dot`, `sign_underline` and `sign_lit` answer
 unfoldable pub hostView : List ℕ → ℕ → ℕ
-hostView b position = hostSeen b (viewAnswer (conditionIn b) position)
+hostView b position =
+    hostAsked b (viewAnswer (conditionIn b) position .refusal) (showsNumber (viewAnswer (conditionIn b) position .shows))
 
 unfoldable pub hostDot : List ℕ → ℕ → ℕ → ℕ
 hostDot b code k = hostTold b (dotAnswer (conditionIn b) code k)

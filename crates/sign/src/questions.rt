@@ -1,11 +1,11 @@
 // The C host program's questions about the glass, on a lent block.
 ghost use mathlib.Core.Path.{_≡_};
-ghost use Rattle.sign.specs.Questions.{builtIn, shownAs, askedAs, hostView, hostDot, hostUnderline, hostLit};
+ghost use Rattle.sign.specs.Questions.{builtInNumber, showsNumber, askedAs, hostView, hostDot, hostUnderline, hostLit};
 use glass::Shows;
 
 // A built-in character in its font, as a number.
-fn built_in(code: u8, font: u8) -> u32
-    ensures { λ r. ⌜ r ≡ builtIn code font ⌝ }
+fn built_in_number(code: u8, font: u8) -> u32
+    ensures { λ r. ⌜ r ≡ builtInNumber code font ⌝ }
 {
     if font == 0 {
         768 + (code as u32)
@@ -15,14 +15,14 @@ fn built_in(code: u8, font: u8) -> u32
 }
 
 // What a cell shows, as a number.
-fn shown(s: Shows) -> u32
-    ensures { λ r. ⌜ r ≡ shownAs s ⌝ }
+fn shows_number(s: Shows) -> u32
+    ensures { λ r. ⌜ r ≡ showsNumber s ⌝ }
 {
     match s {
         Shows::Blank => 0,
         Shows::User(x) => 256 + (x as u32),
         Shows::Euro => 512,
-        Shows::BuiltIn(x, f) => built_in(x, f),
+        Shows::BuiltIn(x, f) => built_in_number(x, f),
     }
 }
 
@@ -48,7 +48,7 @@ pub extern "C" fn sign_view(block: &[u8], position: u32) -> u32
     let c = got.condition;
     let seen = glass::view(c, position);
     let s = seen.shows;
-    asked(seen.refusal, shown(s))
+    asked(seen.refusal, shows_number(s))
 }
 
 // Dot k of a user character of the block that is lent, asked by its code.

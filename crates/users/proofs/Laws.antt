@@ -1,15 +1,16 @@
--- What the functions cite: a place that is found is below the count; a character is defined by how its lookup goes.
+-- What the functions cite: a place that is found is below the count, no code above 255 is found; a character is defined by how its
+-- lookup goes.
 use Prim.Native.Nat.{ℕ, zero, suc, _+_, _*_, _/_, _%_, _<_, min}
-use mathlib.Core.Path.{_≡_, sym, ap, _∙_}
+use mathlib.Core.Path.{_≡_, refl, sym, ap, _∙_}
 use mathlib.Core.List.{List}
 use mathlib.Core.Bool.{Bool, true, false, cond}
 use native.Mathlib.Omega.{arith}
 use lib.ListN.{length, getD}
 use lib.Dec.{eqb}
-use borrow.Author.Tests.{eq-eqb}
+use borrow.Author.Tests.{eq-eqb, ne-eqb}
 use Rattle.users.specs.declared.Users.{Users}
 use Rattle.users.specs.declared.Found.{Found}
-use Rattle.users.specs.declared.Found.the-variants.{At}
+use Rattle.users.specs.declared.Found.the-variants.{Missing, At}
 use Rattle.users.specs.Users.{placeOf, limitOf, foundIn, defineOf, definedAt, usersIn, defineIn}
 
 pub place-below : (us : List ℕ) (code n k j : ℕ) → placeOf us code n k ≡ At j → j < k + n
@@ -27,6 +28,17 @@ found-below us count code j h e =
     let l : j < 0 + min count (length us / 6) = place-below us code (min count (length us / 6)) 0 j e in
     let m : length us / 6 ≡ 16 = ap (λ (n : ℕ). n / 6) h in
     omega arith
+
+-- bytes are below 256, so no user character has a code above 255
+place-above : (us : List ℕ) (code n k : ℕ) → ((i : ℕ) → getD us i 0 < 256) → 255 < code → placeOf us code n k ≡ Missing
+place-above us code zero k bytes l = refl
+place-above us code (suc n) k bytes l =
+    let other : getD us (k * 6) 0 ≡ code → ⊥ = λ e. omega (arith, bytes (k * 6)) in
+    rw (ne-eqb (getD us (k * 6) 0) code other) (place-above us code n (k + 1) bytes l)
+
+pub none-above : (us : List ℕ) (count code : ℕ) → ((i : ℕ) → getD us i 0 < 256) → 255 < code → foundIn us count code ≡ Missing
+unfolding foundIn
+none-above us count code bytes l = place-above us code (limitOf us count) 0 bytes l
 
 -- where the bytes are 96, and by how the lookup goes
 pub defines : (us : List ℕ) (count code : ℕ) (held : List ℕ) (last : ℕ) (f : Found) → length us ≡ 96 → f ≡ foundIn us count code

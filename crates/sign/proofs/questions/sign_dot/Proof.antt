@@ -1,6 +1,6 @@
 use borrow.Author.Needs.{needs}
 use Rattle.sign.specs.Questions.{hostDot}
-use Rattle.sign.proofs.Asked.{unread, dot-read}
+use Rattle.sign.proofs.Asked.{asked-unread, dot-read}
 use Rattle.sign.proofs.questions.sign_dot.Statement.{statement}
 use Rattle.sign.proofs.questions.sign_dot.Tie as tie
 
@@ -12,7 +12,7 @@ asked-requires c κs = search needs
 
 returns : tie.Need-returns
 unfolding hostDot
-returns c = rw (c .asked .ensures) (unread _ _ (c .before .before .before .read .ensures) _ _ _ (c .before .if1 .taken))
+returns c = rw (c .asked .ensures) (asked-unread _ _ (c .before .before .before .read .ensures) _ _ _ (c .before .if1 .taken))
 
 dot-requires : tie.Need-dot-requires
 dot-requires c κs = search needs

@@ -1,6 +1,6 @@
 use borrow.Author.Needs.{needs}
 use Rattle.sign.specs.Questions.{hostLit}
-use Rattle.sign.proofs.Asked.{unread, lit-read}
+use Rattle.sign.proofs.Asked.{asked-unread, lit-read}
 use Rattle.sign.proofs.questions.sign_lit.Statement.{statement}
 use Rattle.sign.proofs.questions.sign_lit.Tie as tie
 
@@ -12,7 +12,7 @@ asked-requires c κs = search needs
 
 returns : tie.Need-returns
 unfolding hostLit
-returns c = rw (c .asked .ensures) (unread _ _ (c .before .before .before .read .ensures) _ _ _ (c .before .if1 .taken))
+returns c = rw (c .asked .ensures) (asked-unread _ _ (c .before .before .before .read .ensures) _ _ _ (c .before .if1 .taken))
 
 lit-requires : tie.Need-lit-requires
 lit-requires c κs = search needs

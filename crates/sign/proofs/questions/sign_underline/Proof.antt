@@ -1,6 +1,6 @@
 use borrow.Author.Needs.{needs}
 use Rattle.sign.specs.Questions.{hostUnderline}
-use Rattle.sign.proofs.Asked.{unread, underline-read}
+use Rattle.sign.proofs.Asked.{asked-unread, underline-read}
 use Rattle.sign.proofs.questions.sign_underline.Statement.{statement}
 use Rattle.sign.proofs.questions.sign_underline.Tie as tie
 
@@ -12,7 +12,7 @@ asked-requires c κs = search needs
 
 returns : tie.Need-returns
 unfolding hostUnderline
-returns c = rw (c .asked .ensures) (unread _ _ (c .before .before .before .read .ensures) _ _ _ (c .before .if1 .taken))
+returns c = rw (c .asked .ensures) (asked-unread _ _ (c .before .before .before .read .ensures) _ _ _ (c .before .if1 .taken))
 
 underline-requires : tie.Need-underline-requires
 underline-requires c κs = search needs

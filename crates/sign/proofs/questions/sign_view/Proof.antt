@@ -1,6 +1,6 @@
 use borrow.Author.Needs.{needs}
 use Rattle.sign.specs.Questions.{hostView}
-use Rattle.sign.proofs.Asked.{unread, view-read}
+use Rattle.sign.proofs.Asked.{asked-unread, view-read}
 use Rattle.sign.proofs.questions.sign_view.Statement.{statement}
 use Rattle.sign.proofs.questions.sign_view.Tie as tie
 
@@ -12,13 +12,13 @@ asked-requires c κs = search needs
 
 returns : tie.Need-returns
 unfolding hostView
-returns c = rw (c .asked .ensures) (unread _ _ (c .before .before .before .read .ensures) _ _ _ (c .before .if1 .taken))
+returns c = rw (c .asked .ensures) (asked-unread _ _ (c .before .before .before .read .ensures) _ _ _ (c .before .if1 .taken))
 
 view-requires : tie.Need-view-requires
 view-requires c κs = search needs
 
-shown-requires : tie.Need-shown-requires
-shown-requires c κs = search needs
+shows-number-requires : tie.Need-shows-number-requires
+shows-number-requires c κs = search needs
 
 asked-requires-2 : tie.Need-asked-requires-2
 asked-requires-2 c κs = search needs
@@ -26,9 +26,10 @@ asked-requires-2 c κs = search needs
 returns-2 : tie.Need-returns-2
 returns-2 c =
     let read = c .before .before .before .before .before .before .read .ensures in
-    rw (c .asked2 .ensures, c .before .shown .ensures) (view-read _ _ read _ _ (c .before .before .before .before .if1 .left) (c .before .before .view .ensures))
+    rw (c .asked2 .ensures, c .before .shows-number .ensures)
+    (view-read _ _ read _ _ (c .before .before .before .before .if1 .left) (c .before .before .view .ensures))
 
 pub sign-view-spec : {M : Type 1} → statement M
 sign-view-spec =
     tie.close
-    (tie.spec read-requires asked-requires returns view-requires shown-requires asked-requires-2 returns-2)
+    (tie.spec read-requires asked-requires returns view-requires shows-number-requires asked-requires-2 returns-2)

@@ -1,6 +1,6 @@
 use borrow.Author.Needs.{needs}
-use Rattle.sign.proofs.questions.shown.Statement.{statement}
-use Rattle.sign.proofs.questions.shown.Tie as tie
+use Rattle.sign.proofs.questions.shows_number.Statement.{statement}
+use Rattle.sign.proofs.questions.shows_number.Tie as tie
 
 enum-told : tie.Need-enum-told
 enum-told c = search needs
@@ -20,8 +20,8 @@ enum-told-2 c = search needs
 enum-known-s-2 : tie.Need-enum-known-s-2
 enum-known-s-2 c = search needs
 
-built-in-requires : tie.Need-built-in-requires
-built-in-requires c κs = search needs
+built-in-number-requires : tie.Need-built-in-number-requires
+built-in-number-requires c κs = search needs
 
 returns : tie.Need-returns
 returns c = search needs
@@ -33,10 +33,10 @@ returns-3 : tie.Need-returns-3
 returns-3 c = search needs
 
 returns-4 : tie.Need-returns-4
-returns-4 c = rw (c .built-in .ensures, c .before .before .s2 .given .1)
+returns-4 c = rw (c .built-in-number .ensures, c .before .before .s2 .given .1)
 
-pub shown-spec : {M : Type 1} → statement M
-shown-spec =
+pub shows-number-spec : {M : Type 1} → statement M
+shows-number-spec =
     tie.close
     (tie.spec
     enum-told
@@ -45,7 +45,7 @@ shown-spec =
     add-result
     enum-told-2
     enum-known-s-2
-    built-in-requires
+    built-in-number-requires
     returns
     returns-2
     returns-3

@@ -1,7 +1,7 @@
 use borrow.Author.Tests.{eq-eqb, ne-eqb}
 use borrow.Author.Needs.{needs}
-use Rattle.sign.proofs.questions.built_in.Statement.{statement}
-use Rattle.sign.proofs.questions.built_in.Tie as tie
+use Rattle.sign.proofs.questions.built_in_number.Statement.{statement}
+use Rattle.sign.proofs.questions.built_in_number.Tie as tie
 
 add-result : tie.Need-add-result
 add-result c = search needs
@@ -15,5 +15,5 @@ returns c = rw (eq-eqb _ _ (c .if1 .taken))
 returns-2 : tie.Need-returns-2
 returns-2 c = rw (ne-eqb _ _ (c .if1 .left))
 
-pub built-in-spec : {M : Type 1} → statement M
-built-in-spec = tie.close (tie.spec add-result add-result-2 returns returns-2)
+pub built-in-number-spec : {M : Type 1} → statement M
+built-in-number-spec = tie.close (tie.spec add-result add-result-2 returns returns-2)
