@@ -1,7 +1,7 @@
 /* A host that survives losses of power. It shows pictures in turn on one sign on a serial wire.
 
    Usage: station TTY STATE PICTURES [J6] [HOLD_MS]
-   TTY       the wire; its speed and parity are set by stty: stty -F TTY 19200 cs8 parenb -parodd
+   TTY       the wire, as stty set it: stty -F TTY 19200 cs8 -cstopb parenb -parodd -crtscts
    STATE     a file for this sign alone, kept between starts: mark, block, tally, TTY, boot
    PICTURES  a text file, two lines of up to 20 characters for each; '>' is drawn as an arrow. The
              codes above 7Eh are the module's own, not UTF-8

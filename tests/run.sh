@@ -105,10 +105,8 @@ example)
     fence README.md c >"$out/readme.c"
     {
         for name in fcntl sys/file termios unistd; do echo "#include <$name.h>"; done
-        echo 'int open_port(void);'
-        echo 'int open_port(void) {'
+        echo 'int open_port(const char *name);'
         fence docs/HOST.md c
-        echo 'return port; }'
     } >"$out/port.c"
     for name in readme port; do
         $CC -std=c11 -pedantic -Wall -Wextra -Werror -D_DEFAULT_SOURCE -Iinclude -c -o "$out/$name.o" "$out/$name.c"
