@@ -43,14 +43,14 @@ extern "C" {
 /* Stack that a call needs on x86-64, in bytes, from its return address down, with all that it calls
    (the C library's memcpy and memset by their return address alone). The test `stack` compares
    these lines with the compiled code.
-     sign_power_up   1,512
-     sign_run        2,056
-     sign_plan       2,660
-     sign_plan_fonts 2,644
-     sign_view       1,092
-     sign_dot        996
-     sign_underline  980
-     sign_lit        980
+     sign_power_up   501
+     sign_run        1,284
+     sign_plan       2,340
+     sign_plan_fonts 2,372
+     sign_view       772
+     sign_dot        676
+     sign_underline  660
+     sign_lit        660
    The code also uses the red zone, the 128 bytes below the stack pointer that the x86-64 ABI leaves
    to a function. A signal handler on the same stack needs its own frame and those 128 bytes
    besides. In a kernel or on bare metal the processor itself would write an interrupt's frame into

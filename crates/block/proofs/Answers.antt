@@ -1,24 +1,24 @@
 -- What each way through a reading and a writing comes to.
 use Prim.Native.Nat.{ℕ, _≤_, _<_}
-use mathlib.Core.Path.{_≡_, refl, ap, sym, _∙_}
-use mathlib.Core.Bool.{Bool, true, false, _&&_}
+use mathlib.Core.Path.{_≡_, ap, sym, _∙_}
+use mathlib.Core.Bool.{Bool, true, false, cond}
 use mathlib.Core.List.{List, _++_}
 use native.Mathlib.Omega.{arith}
 use lib.ListN.{length, take, drop}
 use lib.Seq.{take-at}
-use borrow.Author.Tests.{eq-eqb, ne-eqb, lt-ltb, le-ltb}
+use borrow.Author.Tests.{ne-eqb, lt-ltb, le-ltb}
 use Rattle.condition.specs.declared.Condition.{Condition}
 use Rattle.condition.specs.declared.Outcome.{Outcome}
 use Rattle.condition.specs.Condition.{wellFormed}
 use Rattle.block.specs.declared.Written.{Written}
-use Rattle.layout.specs.Layout.{conditionIn}
+use Rattle.layout.specs.Layout.{unpackedOf}
 use Rattle.block.specs.Block.{blockOf}
-use Rattle.block.specs.Reading.{intact, sound, readRefusal, refusedOf, readAnswer, ReadPromise}
+use Rattle.block.specs.Reading.{readRefusal, refusedOf, readAnswer, ReadPromise}
 use Rattle.block.specs.Writing.{writeRefusal, writeAnswer, writeOut, WritePromise}
-use Rattle.block.specs.Tidy.{tidy}
+use Rattle.block.specs.Tidy.{damageOf}
 use Rattle.condition.proofs.Good.{Sized}
 use Rattle.block.proofs.Sealing.{length-block}
-use Rattle.block.proofs.Tidying.{tidy-same}
+use Rattle.block.proofs.Damaged.{damaged, Undamaged, undamaged}
 use Rattle.block.proofs.RoundTrip.{reread, rewritten, read-formed}
 
 -- A reading ----------------------------------------------------------------------------------------------------------------
@@ -36,39 +36,24 @@ unread : (b : List ℕ) (r : Outcome) (n : ℕ) → r ≡ refusedOf n → readRe
 unfolding readAnswer
 unread b r n e f h = promised b r (e ∙ sym (rw (f, ne-eqb n 0 h)))
 
-pub wrong-length : (b : List ℕ) (r : Outcome) → r ≡ refusedOf 1 → (length b ≡ 512 → ⊥) → ReadPromise b r
-unfolding readRefusal
-wrong-length b r e h = unread b r 1 e (rw (ne-eqb (length b) 512 h)) (λ z. omega arith)
+pub damaged-read : (b : List ℕ) (r : Outcome) (n : ℕ) → n ≡ damageOf b → (n ≡ 0 → ⊥) → r ≡ refusedOf n → ReadPromise b r
+damaged-read b r n e h er = unread b r n er (damaged b (λ z. h (e ∙ z)) ∙ sym e) h
 
-pub broken : (b : List ℕ) (r : Outcome) → r ≡ refusedOf 2 → length b ≡ 512 → intact b ≡ false → ReadPromise b r
-unfolding readRefusal
-broken b r e h i = unread b r 2 e (rw (eq-eqb (length b) 512 h, i)) (λ z. omega arith)
+-- a block that is not damaged, with w what is said of the condition that stands in it
+module _ (b : List ℕ) (n : ℕ) (w : Bool) (d : n ≡ damageOf b) (z : n ≡ 0) (ew : w ≡ wellFormed (unpackedOf b)) where
+  whole : Undamaged b
+  whole = undamaged b (sym d ∙ z)
 
-unsound : (b : List ℕ) (r : Outcome) → r ≡ refusedOf 3 → length b ≡ 512 → intact b ≡ true → sound b ≡ false → ReadPromise b r
-unfolding readRefusal
-unsound b r e h i s = unread b r 3 e (rw (eq-eqb (length b) 512 h, i, s)) (λ z. omega arith)
+  told : readRefusal b ≡ cond w 0 3
+  told =
+      whole .refusal ∙ ap (λ (c : Condition). cond (wellFormed c) 0 3) (sym (whole .held)) ∙ ap (λ (t : Bool). cond t 0 3) (sym ew)
 
--- sound is well formed and tidy
-judged : (b : List ℕ) → length b ≡ 512 → intact b ≡ true → (w t : Bool) → wellFormed (conditionIn b) ≡ w → tidy b ≡ t → sound b ≡ (w && t)
-unfolding sound
-judged b h i w t ew et = rw (ew, ← tidy-same b h i, et)
+  pub unformed : w ≡ false → (r : Outcome) → r ≡ refusedOf 3 → ReadPromise b r
+  unformed f r e = unread b r 3 e (told ∙ ap (λ (t : Bool). cond t 0 3) f) (λ z. omega arith)
 
-neither : (w : Bool) → (w && false) ≡ false
-neither true = refl
-neither false = refl
-
-pub untidy : (b : List ℕ) (r : Outcome) → r ≡ refusedOf 3 → length b ≡ 512 → intact b ≡ true → tidy b ≡ false → ReadPromise b r
-untidy b r e h i t = unsound b r e h i (judged b h i (wellFormed (conditionIn b)) false refl t ∙ neither (wellFormed (conditionIn b)))
-
-pub unformed : (b : List ℕ) (r : Outcome) → r ≡ refusedOf 3 → length b ≡ 512 → intact b ≡ true → wellFormed (conditionIn b) ≡ false → ReadPromise b r
-unformed b r e h i w = unsound b r e h i (judged b h i false (tidy b) w refl)
-
-pub taken : (b : List ℕ) (c : Condition) → c ≡ conditionIn b → length b ≡ 512 → intact b ≡ true → tidy b ≡ true → wellFormed (conditionIn b) ≡ true
-    → ReadPromise b (record { refusal = 0; condition = c })
-unfolding readAnswer readRefusal
-taken b c e h i t w =
-    let s : sound b ≡ true = judged b h i true true w t in
-    promised b (record { refusal = 0; condition = c }) (rw (eq-eqb (length b) 512 h, i, s, e))
+  pub taken : w ≡ true → (c : Condition) → c ≡ unpackedOf b → ReadPromise b (record { refusal = 0; condition = c })
+  unfolding readAnswer
+  taken f c e = promised b (record { refusal = 0; condition = c }) (rw (told ∙ ap (λ (t : Bool). cond t 0 3) f, e ∙ whole .held))
 
 -- A writing ----------------------------------------------------------------------------------------------------------------
 

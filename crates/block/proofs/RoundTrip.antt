@@ -10,11 +10,12 @@ use lib.Seq.{getD-at, append-snoc}
 use borrow.Author.Tests.{eqb-true, eq-eqb}
 use Rattle.condition.specs.declared.Condition.{Condition}
 use Rattle.condition.specs.declared.Outcome.{Outcome}
-use Rattle.condition.specs.Condition.{numbersGood, scrollGood, allUpTo, usersGood, pendingGood, escapeGood, wellFormed, powerUp}
+use Rattle.condition.specs.Condition.{wellFormed}
 use Rattle.layout.specs.Layout.{headOf, packedOf, conditionIn}
 use Rattle.block.specs.Block.{checkOf, bodyOf, sealOf, blockOf}
 use Rattle.block.specs.Reading.{sameBytes, intact, sound, readRefusal, refusedOf, readAnswer}
 use Rattle.condition.proofs.Good.{Sized}
+use Rattle.condition.proofs.Kept.{power-up-good}
 use Rattle.layout.proofs.PackedBack.{back-with}
 use Rattle.block.proofs.Sealing.{length-body, length-block, check-body}
 use Rattle.block.proofs.Tidying.{same-eq, same-refl, block-parts}
@@ -90,14 +91,10 @@ pub read-length : (b : List ℕ) → readAnswer b .refusal ≡ 0 → length b �
 read-length b e = accepted b (sym (refusal-of b) ∙ e) .long
 
 -- power-up for font 0 is well formed, so every reading is
-fresh-formed : wellFormed (powerUp 0) ≡ true
-unfolding wellFormed powerUp numbersGood scrollGood allUpTo usersGood pendingGood escapeGood
-fresh-formed = refl
-
 pub read-formed : (b : List ℕ) → wellFormed (readAnswer b .condition) ≡ true
 unfolding readAnswer
 read-formed b = go (eqb (readRefusal b) 0) refl
   where
     go : (t : Bool) → eqb (readRefusal b) 0 ≡ t → wellFormed (cond t (record { refusal = 0; condition = conditionIn b }) (refusedOf (readRefusal b)) .condition) ≡ true
     go true h = accepted b (eqb-true _ _ h) .formed
-    go false h = fresh-formed
+    go false h = power-up-good 0 (omega arith)

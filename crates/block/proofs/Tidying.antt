@@ -6,8 +6,8 @@ use mathlib.Core.List.{List, [], _∷_, _++_, append-assoc}
 use native.Mathlib.Omega.{arith}
 use native.Mathlib.Nat.{add-zero}
 use lib.Dec.{eqb, ltb, leb}
-use lib.ListN.{length, getD, take, drop, replicate, take-append-drop, drop-of-length-le, length-drop}
-use lib.Seq.{drop-drop, drop-cons, take-at, drop-at, length-take-le, getD-take, getD-drop}
+use lib.ListN.{length, getD, take, drop, replicate, take-append-drop}
+use lib.Seq.{drop-drop, drop-cons, take-at, drop-at, getD-take, getD-drop}
 use borrow.Author.Tests.{eqb-true, eq-eqb, leb-true, ltb-true}
 use Rattle.condition.specs.declared.Condition.{Condition}
 use Rattle.condition.specs.declared.Pending.{Pending}
@@ -17,10 +17,10 @@ use Rattle.condition.proofs.Places.{both}
 use Rattle.layout.specs.Layout.{flag, kindOf, codeOf, headOf, packedOf, pendingOf, conditionIn}
 use Rattle.block.specs.Block.{checkOf, bodyOf, sealOf, blockOf}
 use Rattle.block.specs.Reading.{sameBytes, intact}
-use Rattle.block.specs.Tidy.{kindGood, tidy}
+use Rattle.block.specs.Tidy.{kindGood, restZero, tidy}
 use Rattle.condition.proofs.Good.{Sized}
-use Rattle.layout.proofs.PackedBack.{length-packed}
-use Rattle.block.proofs.Sealing.{length-body, check-body}
+use Rattle.layout.proofs.PackedBack.{length-packed, sized-in}
+use Rattle.block.proofs.Sealing.{unused, last-two, length-body, check-body}
 
 pub same-eq : (x y : List ℕ) → sameBytes x y ≡ true → x ≡ y
 unfolding sameBytes
@@ -89,20 +89,6 @@ opened (suc n) at l h =
 cut : (n at : ℕ) (l : List ℕ) → drop at l ≡ take n (drop at l) ++ drop (at + n) l
 cut n at l = rw (← drop-drop n at l) (sym (take-append-drop n (drop at l)))
 
-zeros : (l : List ℕ) → allUpTo 0 l ≡ true → l ≡ replicate (length l) 0
-unfolding allUpTo
-zeros [] e = refl
-zeros (x ∷ xs) e =
-    let h = both (leb x 0) (allUpTo 0 xs) e in
-    let z : x ≡ 0 = omega (arith, leb-true x 0 (h .0)) in
-    rw (z, ← zeros xs (h .1))
-
--- n unused bytes from `at` on
-unused : (n at : ℕ) (b : List ℕ) → at + n ≤ length b → allUpTo 0 (take n (drop at b)) ≡ true → take n (drop at b) ≡ replicate n 0
-unused n at b h e =
-    let l : length (take n (drop at b)) ≡ n = length-take-le n (drop at b) (simp length-drop (omega arith)) in
-    zeros (take n (drop at b)) e ∙ ap (λ (k : ℕ). replicate k 0) l
-
 flag-fits : (x : ℕ) → leb x 1 ≡ true → flag (eqb x 1) ≡ x
 flag-fits zero e = refl
 flag-fits (suc zero) e = refl
@@ -145,7 +131,7 @@ record Tidy (b : List ℕ) : Type 0 where
   pub flickerless : leb (getD b 12 0) 1 ≡ true
   pub kind : kindGood (getD b 13 0) (getD b 14 0) (getD b 15 0) ≡ true
   pub three : allUpTo 0 (take 3 (drop 21 b)) ≡ true
-  pub rest : allUpTo 0 (take 310 (drop 200 b)) ≡ true
+  pub rest : restZero b ≡ true
 
 tidy-parts : (b : List ℕ) → tidy b ≡ true → Tidy b
 unfolding tidy
@@ -156,7 +142,7 @@ tidy-parts b e =
     let f₁₂ = leb (getD b 12 0) 1 in
     let k = kindGood (getD b 13 0) (getD b 14 0) (getD b 15 0) in
     let z = allUpTo 0 (take 3 (drop 21 b)) in
-    let p₆ = both (f₅ && f₆ && f₉ && f₁₂ && k && z) (allUpTo 0 (take 310 (drop 200 b))) e in
+    let p₆ = both (f₅ && f₆ && f₉ && f₁₂ && k && z) (restZero b) e in
     let p₅ = both (f₅ && f₆ && f₉ && f₁₂ && k) z (p₆ .0) in
     let p₄ = both (f₅ && f₆ && f₉ && f₁₂) k (p₅ .0) in
     let p₃ = both (f₅ && f₆ && f₉) f₁₂ (p₄ .0) in
@@ -241,27 +227,16 @@ body-back b h m t =
     flat ∙ ap (λ (l : List ℕ). l ++ r₁) (head-back b h m t) ∙ sym (opened 24 0 b (omega arith) ∙ ap (λ (l : List ℕ). gets 24 0 b ++ l) e₁)
 
 end-back : (b : List ℕ) → length b ≡ 512 → Intact b → drop 510 b ≡ checkOf b % 256 ∷ checkOf b / 256 ∷ []
-end-back b h m =
-    let e : length b ≤ 512 = omega arith in
-    opened 2 510 b (omega arith) ∙ rw (m .low, m .high, drop-of-length-le b e)
+end-back b h m = last-two b h ∙ rw (m .low, m .high)
 
-pub sized-in : (b : List ℕ) → length b ≡ 512 → Sized (conditionIn b)
-unfolding conditionIn
-sized-in b h =
-    record {
-      codes-40 = length-take-le 40 (drop 24 b) (simp length-drop (omega arith));
-      fonts-40 = length-take-le 40 (drop 64 b) (simp length-drop (omega arith));
-      users-96 = length-take-le 96 (drop 104 b) (simp length-drop (omega arith));
-      held-4 = length-take-le 4 (drop 16 b) (simp length-drop (omega arith));
-    }
-
-tidy-back : (b : List ℕ) → length b ≡ 512 → intact b ≡ true → tidy b ≡ true → blockOf (conditionIn b) ≡ b
+pub tidy-back : (b : List ℕ) → length b ≡ 512 → intact b ≡ true → tidy b ≡ true → blockOf (conditionIn b) ≡ b
 unfolding blockOf sealOf
 tidy-back b h i t =
     let m = intact-parts b i in
     let d : List ℕ = bodyOf (conditionIn b) in
     let e : d ++ drop 510 b ≡ b = body-back b h m (tidy-parts b t) in
-    let k : checkOf d ≡ checkOf b = sym (check-body d (drop 510 b) (length-body (conditionIn b) (sized-in b h))) ∙ ap checkOf e in
+    let k : checkOf d ≡ checkOf b =
+    sym (check-body d (drop 510 b) (length-body (conditionIn b) (sized-in b (omega arith)))) ∙ ap checkOf e in
     ap (λ (n : ℕ). d ++ (n % 256 ∷ n / 256 ∷ [])) k ∙ ap (λ (l : List ℕ). d ++ l) (sym (end-back b h m)) ∙ e
 
 -- so the test in the bytes is the test by writing
@@ -271,5 +246,6 @@ tidy-same b h i = go (tidy b) refl (sameBytes (blockOf (conditionIn b)) b) refl
     go : (p : Bool) → tidy b ≡ p → (q : Bool) → sameBytes (blockOf (conditionIn b)) b ≡ q → p ≡ q
     go true ep true eq = refl
     go true ep false eq = sym (same-refl b) ∙ ap (λ (l : List ℕ). sameBytes l b) (sym (tidy-back b h i ep)) ∙ eq
-    go false ep true eq = sym ep ∙ ap tidy (sym (same-eq (blockOf (conditionIn b)) b eq)) ∙ block-tidy (conditionIn b) (sized-in b h)
+    go false ep true eq =
+        sym ep ∙ ap tidy (sym (same-eq (blockOf (conditionIn b)) b eq)) ∙ block-tidy (conditionIn b) (sized-in b (omega arith))
     go false ep false eq = refl

@@ -1,7 +1,9 @@
 -- The block of a condition (document 01, Block): 512 bytes.
 use Prim.Native.Nat.{ℕ, _+_, _*_, _/_, _%_}
+use mathlib.Core.Bool.{cond}
 use mathlib.Core.List.{List, [], _∷_, _++_}
-use lib.ListN.{take, replicate}
+use lib.Dec.{ltb}
+use lib.ListN.{length, take, drop, replicate}
 use Rattle.condition.specs.declared.Condition.{Condition}
 use Rattle.layout.specs.Layout.{packedOf}
 
@@ -25,3 +27,7 @@ sealOf b = b ++ (checkOf b % 256 ∷ checkOf b / 256 ∷ [])
 -- the block of a condition
 unfoldable pub blockOf : Condition → List ℕ
 blockOf c = sealOf (bodyOf c)
+
+-- the block at the start of a buffer that has room for it
+unfoldable pub putOver : Condition → List ℕ → List ℕ
+putOver c out = cond (ltb (length out) 512) out (blockOf c ++ drop 512 out)

@@ -1,11 +1,13 @@
 // The condition as bytes: the 512-byte block (document 01, Block).
 ghost use mathlib.Core.Path.{_≡_};
 ghost use Prim.Native.Nat.{_≤_};
-ghost use lib.ListN.{length};
-ghost use Rattle.block.specs.Block.{weigh, checkOf, blockOf};
+ghost use mathlib.Core.Bool.{cond};
+ghost use mathlib.Core.List.{_++_};
+ghost use lib.ListN.{length, take, replicate};
+ghost use Rattle.block.specs.Block.{weigh, checkOf, sealOf, blockOf, putOver};
 ghost use Rattle.block.specs.Reading.{intact, refusedOf, ReadPromise};
 ghost use Rattle.block.specs.Writing.{WritePromise};
-ghost use Rattle.block.specs.Tidy.{kindGood, tidy};
+ghost use Rattle.block.specs.Tidy.{kindGood, restZero, tidy, damageOf};
 use condition::Condition;
 use condition::Outcome;
 
@@ -38,6 +40,30 @@ fn weighed(s: &[u8]) -> u32
     sum
 }
 
+// The unused bytes 200 to 509 are 0.
+fn is_rest_zero(block: &[u8]) -> bool
+    requires { ⌜ 510 ≤ length (now block) ⌝ }
+    ensures { λ r. ⌜ r ≡ restZero (now (block .entry)) ⌝ }
+{
+    condition::up_to(0, &block[layout::PACKED..CHECK])
+}
+
+// How many bytes the check weighs: zeros weigh nothing.
+fn weighty(zero: bool) -> usize
+    ensures { λ r. ⌜ (r ≡ cond zero 200 510) × (r ≤ 510) ⌝ }
+{
+    if zero { layout::PACKED } else { CHECK }
+}
+
+// The check, where it is known whether the unused bytes 200 to 509 are 0.
+fn check_by(block: &[u8], zero: bool) -> u32
+    requires { ⌜ (510 ≤ length (now block)) × (zero ≡ restZero (now block)) ⌝ }
+    ensures { λ r. ⌜ r ≡ checkOf (now (block .entry)) ⌝ }
+{
+    let n = weighty(zero);
+    weighed(&block[..n]) % MODULUS
+}
+
 // The check of a block, over its first 510 bytes.
 pub fn check(block: &[u8]) -> u32
     ensures { λ r. ⌜ r ≡ checkOf (now (block .entry)) ⌝ }
@@ -45,19 +71,40 @@ pub fn check(block: &[u8]) -> u32
     if block.len() < CHECK {
         return weighed(block) % MODULUS;
     }
-    weighed(&block[..CHECK]) % MODULUS
+    let zero = is_rest_zero(block);
+    check_by(block, zero)
+}
+
+// 512 bytes become a block of what is packed in their first 200: the unused bytes behind these are 0, and the check is put.
+fn seal(block: &mut [u8])
+    requires { ⌜ length (now block) ≡ 512 ⌝ }
+    ensures { λ _. ⌜ now (block .exit) ≡ sealOf (take 200 (now (block .entry)) ++ replicate 310 0) ⌝ }
+{
+    row::clear(&mut block[layout::PACKED..CHECK], 0);
+    let sum = weighed(&block[..layout::PACKED]) % MODULUS;
+    block[CHECK] = (sum % 256) as u8;
+    block[CHECK + 1] = (sum / 256) as u8;
+}
+
+// The block of a condition, well formed or not, is put at the start of a buffer. One that is too short stays as it is.
+pub fn put(c: Condition, out: &mut [u8])
+    ensures { λ _. ⌜ now (out .exit) ≡ putOver c (now (out .entry)) ⌝ }
+{
+    let room = out.len();
+    if room < LENGTH {
+        return;
+    }
+    let first = layout::packed(c);
+    row::copy(out, &first);
+    seal(&mut out[..LENGTH]);
 }
 
 // The block of a condition, well formed or not.
 pub fn sealed(c: Condition) -> [u8; LENGTH]
     ensures { λ r. ⌜ r ≡ blockOf c ⌝ }
 {
-    let first = layout::packed(c);
     let mut block = [0u8; LENGTH];
-    row::copy(&mut block, &first);
-    let sum = check(&block);
-    block[CHECK] = (sum % 256) as u8;
-    block[CHECK + 1] = (sum / 256) as u8;
+    put(c, &mut block);
     block
 }
 
@@ -77,20 +124,18 @@ pub fn write(c: Condition, out: &mut [u8]) -> Written
             length: 0,
         };
     }
-    let block = sealed(c);
-    row::copy(out, &block);
+    put(c, out);
     Written {
         refusal: 0,
         length: 512,
     }
 }
 
-// Bytes 0 to 2 and the check are as they should be.
-fn is_intact(block: &[u8]) -> bool
-    requires { ⌜ length (now block) ≡ 512 ⌝ }
+// Bytes 0 to 2 and the check, which is to be `sum`, are as they should be.
+fn is_intact(block: &[u8], sum: u32) -> bool
+    requires { ⌜ (length (now block) ≡ 512) × (sum ≡ checkOf (now block)) ⌝ }
     ensures { λ r. ⌜ r ≡ intact (now (block .entry)) ⌝ }
 {
-    let sum = check(block);
     (block[0] == layout::FIRST)
         & (block[1] == layout::SECOND)
         & (block[2] == layout::THIRD)
@@ -107,9 +152,9 @@ fn kind_good(kind: u8, code: u8, holds: u8) -> bool
     (kind < 6) & (code == 0) & (holds == 0)
 }
 
-// Flags are 0 or 1, the kind is 0 to 6, and what is unused is 0.
-fn is_tidy(block: &[u8]) -> bool
-    requires { ⌜ length (now block) ≡ 512 ⌝ }
+// Flags are 0 or 1, the kind is 0 to 6, and what is unused is 0; of bytes 200 to 509 it is known.
+fn is_tidy(block: &[u8], zero: bool) -> bool
+    requires { ⌜ (length (now block) ≡ 512) × (zero ≡ restZero (now block)) ⌝ }
     ensures { λ r. ⌜ r ≡ tidy (now (block .entry)) ⌝ }
 {
     (block[layout::SCROLLING] <= 1)
@@ -122,7 +167,27 @@ fn is_tidy(block: &[u8]) -> bool
             block[layout::HOLDS],
         )
         & condition::up_to(0, &block[layout::UNUSED..layout::CODES])
-        & condition::up_to(0, &block[layout::PACKED..CHECK])
+        & zero
+}
+
+// Why a block is refused whatever condition stands in it: 1 or 2, or 3 for a byte that no condition is written with; else 0.
+pub fn damage(block: &[u8]) -> u8
+    ensures { λ r. ⌜ r ≡ damageOf (now (block .entry)) ⌝ }
+{
+    if block.len() != LENGTH {
+        return 1;
+    }
+    let zero = is_rest_zero(block);
+    let sum = check_by(block, zero);
+    let intact = is_intact(block, sum);
+    let tidy = is_tidy(block, zero);
+    if !intact {
+        return 2;
+    }
+    if !tidy {
+        return 3;
+    }
+    0
 }
 
 // A refused reading gives power-up for font 0.
@@ -138,19 +203,14 @@ fn refused(refusal: u8) -> Outcome
 pub fn read(block: &[u8]) -> Outcome
     ensures { λ r. ⌜ ReadPromise (now (block .entry)) r ⌝ }
 {
-    if block.len() != LENGTH {
-        return refused(1);
+    let wrong = damage(block);
+    if wrong != 0 {
+        return refused(wrong);
     }
-    if !is_intact(block) {
-        return refused(2);
-    }
-    if !is_tidy(block) {
+    if !layout::is_formed(block) {
         return refused(3);
     }
     let c = layout::unpacked(block);
-    if !c.well_formed() {
-        return refused(3);
-    }
     Outcome {
         refusal: 0,
         condition: c,

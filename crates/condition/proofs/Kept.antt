@@ -17,7 +17,7 @@ use Rattle.condition.specs.declared.Pending.the-variants.{Nothing, Escap
 use Rattle.condition.specs.Condition.{column, idle, heldOf, allUpTo, absent, usersGood, pendingGood, numbersGood, scrollGood, escapeGood, wellFormed, powerUp}
 use Rattle.condition.specs.Set.{withCells, withCell, withCursor, withMode, withScrolling, withShown, withFont, withEuro, withLuminance, withSpeed, withFlickerless, withPending, goTo}
 use Rattle.condition.specs.Bytes.{scrollOf, leftOf, rightOf, downOf, returnOf, clearOf, pushOf, writeOf, isChar, positionOf, dataOf, stepOf, runOf}
-use Rattle.condition.proofs.Places.{both}
+use Rattle.condition.proofs.Places.{both, and-false}
 use Rattle.condition.proofs.Ranges.{up-to-set, up-to-append, up-to-cons, up-to-take, up-to-drop, up-to-replicate}
 use Rattle.condition.proofs.Users.{define-good, at-absent}
 use Rattle.condition.proofs.Each.{Commands, step-by, run-by}
@@ -149,10 +149,6 @@ right-kept c g =
     by-test Good (eqb (c .cursor) 19) (λ _. cursor-kept c g 20 (omega arith) off)
     (λ _. by-test Good (eqb (c .mode) 1) (λ _. cursor-kept c g 0 (omega arith) off)
     (λ _. cursor-kept (scrollOf c) (scroll-kept c g) 20 (omega arith) off))))
-  where
-    and-false : (a : Bool) → (a && false) ≡ false
-    and-false true = refl
-    and-false false = refl
 
 pub down-kept : (c : Condition) → Good c → Good (downOf c)
 unfolding downOf

@@ -5,12 +5,11 @@ use mathlib.Core.List.{List}
 use Prim.Native.Nat.{ℕ, suc, _+_, _-_, _<_, _≤_}
 use native.Mathlib.Omega.{arith}
 use lib.Dec.{eqb, ltb, leb}
-use borrow.Author.Tests.{leb-true, le-leb}
-use Rattle.condition.specs.declared.Condition.{Condition}
+use borrow.Author.Tests.{le-leb}
 use lib.ListN.{length, getD, drop, take, length-drop}
 use lib.Seq.{getD-drop, drop-drop, take-all}
 use native.Mathlib.Nat.{add-zero}
-use Rattle.condition.specs.Condition.{absent, usersGood, numbersGood, allUpTo}
+use Rattle.condition.specs.Condition.{absent, usersGood, allUpTo}
 
 -- the part of a list from a place on
 pub tail-part : (s : List ℕ) (at : ℕ) → take (length s - at) (drop at s) ≡ drop at s
@@ -33,12 +32,13 @@ pub both : (a b : Bool) → (a && b) ≡ true → (a ≡ true) × (b ≡ true)
 both true b e = (refl, e)
 both false b e = (e, cc)
 
-pub count-below : (c : Condition) → numbersGood c ≡ true → c .users .count ≤ 16
-unfolding numbersGood
-count-below c e =
-    leb-true _ _ (both (ltb (c .cursor) 40 && leb 1 (c .mode) && leb (c .mode) 3 && leb (c .font) 1 && leb (c .link) 1 && leb (c .luminance) 3) (leb (c .users .count) 16) e .1)
+pub and-false : (a : Bool) → (a && false) ≡ false
+and-false true = refl
+and-false false = refl
 
-pub held-good : (n m : ℕ) (h : List ℕ) → length h ≡ 4 → n ≡ m → n ≤ 4 → allUpTo 0 (take (4 - n) (drop n h)) ≡ (leb m 4 && allUpTo 0 (drop m h))
-held-good n m h four e le =
+-- the bytes held from the count up, where the count is at most 4
+pub held-good : (n m : ℕ) (h : List ℕ) → n ≡ m → n ≤ 4
+    → allUpTo 0 (take (length h - n) (drop n h)) ≡ (leb m 4 && allUpTo 0 (drop m h))
+held-good n m h e le =
     let le′ : m ≤ 4 = omega arith in
-    ap (λ (k : ℕ). allUpTo 0 (take (k - n) (drop n h))) (sym four) ∙ ap (allUpTo 0) (tail-part h n) ∙ ap (λ (k : ℕ). allUpTo 0 (drop k h)) e ∙ sym (rw (le-leb m 4 le′))
+    ap (allUpTo 0) (tail-part h n) ∙ ap (λ (k : ℕ). allUpTo 0 (drop k h)) e ∙ sym (rw (le-leb m 4 le′))

@@ -3,6 +3,7 @@ ghost use mathlib.Core.Path.{_≡_};
 ghost use Prim.Native.Nat.{_*_, _≤_};
 ghost use lib.ListN.{length};
 ghost use Rattle.condition.specs.Condition.{idle, heldOf, allUpTo, absent, usersGood, pendingGood, numbersGood, scrollGood, wellFormed, powerUp, powerUpAnswer};
+ghost use Rattle.condition.specs.Rows.{rowsFormed};
 use users::Users;
 
 // The half-received command. A user character's data has its code and the count of bytes held.
@@ -45,18 +46,19 @@ pub struct Outcome {
     pub condition: Condition,
 }
 
-// Every byte of s is at most n.
+// Every byte of s is at most n. All are looked at: a loop that does not leave early is compiled to take many at a time.
 pub fn up_to(n: u8, s: &[u8]) -> bool
     ensures { λ r. ⌜ r ≡ allUpTo n (now (s .entry)) ⌝ }
 {
+    let mut most: u8 = 0;
     let mut i = 0;
     while i < s.len() {
-        if n < s[i] {
-            return false;
+        if most < s[i] {
+            most = s[i];
         }
         i += 1;
     }
-    true
+    most <= n
 }
 
 // The code x stands in none of the first n places of s.
@@ -126,14 +128,36 @@ fn held_of(p: Pending) -> u8
     }
 }
 
-fn pending_good(p: Pending, h: [u8; 4]) -> bool
-    ensures { λ r. ⌜ r ≡ pendingGood p h ⌝ }
+fn pending_good(p: Pending, h: &[u8]) -> bool
+    requires { ⌜ length (now h) ≡ 4 ⌝ }
+    ensures { λ r. ⌜ r ≡ pendingGood p (now (h .entry)) ⌝ }
 {
     let n = held_of(p) as usize;
-    if 4 < n {
+    if Condition::HELD < n {
         return false;
     }
     up_to(0, &h[n..])
+}
+
+// The rows of a condition are as they should be: the cells' fonts, the user characters, and what is held of one that is being
+// received. They may stand in a condition or in bytes; more than 16 user characters, or a row of another length, never are.
+pub fn rows_formed(fonts: &[u8], count: u8, users: &[u8], pending: Pending, held: &[u8]) -> bool
+    ensures { λ r. ⌜ r ≡ rowsFormed (now (fonts .entry)) count (now (users .entry)) pending (now (held .entry)) ⌝ }
+{
+    if users.len() != 96 {
+        return false;
+    }
+    if held.len() != Condition::HELD {
+        return false;
+    }
+    if Condition::MOST_USERS < count {
+        return false;
+    }
+    let n = count as usize;
+    up_to(Condition::LAST_FONT, fonts)
+        & users_good(n, users)
+        & pending_good(pending, held)
+        & (is_idle(pending) | is_absent(0x1B, n, users))
 }
 
 fn numbers_good(c: Condition) -> bool
@@ -219,19 +243,11 @@ impl Condition {
     pub fn well_formed(self) -> bool
         ensures { λ r. ⌜ r ≡ wellFormed self ⌝ }
     {
-        if !numbers_good(self) {
-            return false;
-        }
         let u = self.users;
-        let n = u.count as usize;
         let bytes = u.bytes;
         let fonts = self.fonts;
         let p = self.pending;
-        let h = self.held;
-        scroll_good(self)
-            & up_to(1, &fonts)
-            & users_good(n, &bytes)
-            & pending_good(p, h)
-            & (is_idle(p) | is_absent(0x1B, n, &bytes))
+        let held = self.held;
+        numbers_good(self) & scroll_good(self) & rows_formed(&fonts, u.count, &bytes, p, &held)
     }
 }

@@ -1,10 +1,13 @@
 -- What carrying bytes out answers.
 use Prim.Native.Nat.{ℕ, _≤_, _<_}
-use mathlib.Core.Path.{_≡_, sym, ap, _∙_}
-use mathlib.Core.Bool.{true, false}
+use mathlib.Core.Path.{_≡_, refl, sym, ap, _∙_}
+use mathlib.Core.Bool.{Bool, true, false, cond, not}
 use mathlib.Core.List.{List}
+use native.Mathlib.Omega.{arith}
+use lib.Dec.{eqb, ltb}
 use lib.ListN.{length}
-use borrow.Author.Tests.{le-leb, lt-leb}
+use borrow.Author.Tests.{eqb-true, eq-eqb, ne-eqb, lt-ltb, le-ltb, ltb-false}
+use Rattle.users.proofs.Places.{by-test}
 use Rattle.condition.specs.declared.Condition.{Condition}
 use Rattle.condition.specs.Condition.{wellFormed}
 use Rattle.condition.specs.Bytes.{runOf}
@@ -14,7 +17,7 @@ use Rattle.layout.specs.Layout.{packedOf, conditionIn}
 use Rattle.layout.proofs.PackedBack.{packed-back}
 use Rattle.inplace.specs.declared.After.{After}
 use Rattle.inplace.specs.InPlace.{Carried}
-use Rattle.inplace.specs.Carry.{untouchedOf, afterOf}
+use Rattle.inplace.specs.Carry.{carryRefusal, untouchedOf, afterOf}
 
 -- a run on the packed condition
 pub carries : (c : Condition) (p after : List ℕ) (k : Condition) (bs : List ℕ) (busy flickerless : ℕ) → Sized c → p ≡ packedOf c
@@ -24,24 +27,51 @@ carries c p after k bs busy flickerless s e f g =
     rw f (rw h at g)
 
 module _ (c : Condition) (bs : List ℕ) (r : After) where
-  pub not-formed : wellFormed c ≡ false → r ≡ untouchedOf c → r ≡ afterOf c bs
+  -- refused, by its number
+  untouched : (n : ℕ) → carryRefusal c bs ≡ n → (n ≡ 0 → ⊥) → r ≡ untouchedOf n c → r ≡ afterOf c bs
   unfolding afterOf
-  not-formed w e = rw w e
+  untouched n e h u = u ∙ sym (rw (e, ne-eqb n 0 h))
 
-  pub too-long : wellFormed c ≡ true → 32768 < length bs → r ≡ untouchedOf c → r ≡ afterOf c bs
-  unfolding afterOf
-  too-long w h e = rw (w, lt-leb (length bs) 32768 h) e
+  pub not-formed : wellFormed c ≡ false → r ≡ untouchedOf 3 c → r ≡ afterOf c bs
+  unfolding carryRefusal
+  not-formed w = untouched 3 (rw w) (λ z. omega arith)
 
-  pub carried : wellFormed c ≡ true → length bs ≤ 32768 → Carried c bs (r .condition) (r .busy) (r .flickerless) → r ≡ afterOf c bs
-  unfolding afterOf
-  carried w h g = rw (w, le-leb (length bs) 32768 h) (λ i. record { condition = g .leaves i; busy = g .takes i; flickerless = g .flickers i })
+  pub too-long : wellFormed c ≡ true → 32768 < length bs → r ≡ untouchedOf 4 c → r ≡ afterOf c bs
+  unfolding carryRefusal
+  too-long w h = untouched 4 (rw (w, lt-ltb 32768 (length bs) h)) (λ z. omega arith)
+
+  pub carried : wellFormed c ≡ true → length bs ≤ 32768 → r .refusal ≡ 0 → Carried c bs (r .condition) (r .busy) (r .flickerless)
+      → r ≡ afterOf c bs
+  unfolding afterOf carryRefusal
+  carried w h z g =
+      rw (w, le-ltb 32768 (length bs) h)
+      (λ i. record { refusal = z i; condition = g .leaves i; busy = g .takes i; flickerless = g .flickers i })
 
   -- and what a caller learns from it
-  pub taken : wellFormed c ≡ true → length bs ≤ 32768 → r ≡ afterOf c bs → Carried c bs (r .condition) (r .busy) (r .flickerless)
+  pub refusal-is : r ≡ afterOf c bs → r .refusal ≡ carryRefusal c bs
   unfolding afterOf
-  taken w h e =
-      let f : r ≡ record { condition = runOf c bs; busy = busyOf c bs; flickerless = flickerlessOf c bs } = e ∙ rw (w, le-leb (length bs) 32768 h) in
+  refusal-is e =
+      ap (λ (a : After). a .refusal) e
+      ∙ by-test (λ (a : After). a .refusal ≡ carryRefusal c bs) (eqb (carryRefusal c bs) 0)
+      (λ t. sym (eqb-true (carryRefusal c bs) 0 t)) (λ _. refl)
+
+  pub taken : r ≡ afterOf c bs → r .refusal ≡ 0 → Carried c bs (r .condition) (r .busy) (r .flickerless)
+  unfolding afterOf
+  taken e z =
+      let f : r ≡ record { refusal = 0; condition = runOf c bs; busy = busyOf c bs; flickerless = flickerlessOf c bs } =
+      e ∙ rw (eq-eqb (carryRefusal c bs) 0 (sym (refusal-is e) ∙ z)) in
       record { leaves = ap (λ (a : After). a .condition) f; takes = ap (λ (a : After). a .busy) f; flickers = ap (λ (a : After). a .flickerless) f }
+
+-- what is carried out is well formed and not too long
+pub accepts : (c : Condition) (bs : List ℕ) → carryRefusal c bs ≡ 0 → (wellFormed c ≡ true) × (length bs ≤ 32768)
+unfolding carryRefusal
+accepts c bs e = go (wellFormed c) refl (ltb 32768 (length bs)) refl e
+  where
+    go : (w : Bool) → wellFormed c ≡ w → (l : Bool) → ltb 32768 (length bs) ≡ l → _≡_ {A = ℕ} (cond (not w) 3 (cond l 4 0)) 0
+        → (wellFormed c ≡ true) × (length bs ≤ 32768)
+    go true ew false el f = (ew, omega (arith, ltb-false 32768 (length bs) el))
+    go true ew true el f = absurd (let z : _≡_ {A = ℕ} 4 0 = f in omega arith)
+    go false ew l el f = absurd (let z : _≡_ {A = ℕ} 3 0 = f in omega arith)
 
 -- two answers that the contract allows are the same
 pub one-carrying : (c : Condition) (bs : List ℕ) (r s : After) → r ≡ afterOf c bs → s ≡ afterOf c bs → r ≡ s

@@ -5,8 +5,7 @@ use mathlib.Core.List.{List}
 use mathlib.Core.Bool.{true}
 use native.Mathlib.Omega.{arith}
 use lib.Dec.{eqb}
-use lib.ListN.{length, getD, drop, length-drop}
-use lib.Seq.{length-take-le}
+use lib.ListN.{length, getD, drop}
 use Rattle.condition.specs.declared.Condition.{Condition}
 use Rattle.condition.specs.Condition.{wellFormed}
 use Rattle.condition.specs.Bytes.{runOf}
@@ -15,21 +14,12 @@ use Rattle.condition.proofs.Good.{good, Sized}
 use Rattle.condition.proofs.Kept.{step-kept}
 use Rattle.condition.proofs.Pieces.{run-turn, busy-turn, flickerless-turn, run-ended, busy-ended, flickerless-ended, figure-most, one-most}
 use Rattle.layout.specs.Layout.{conditionIn}
+use Rattle.layout.proofs.PackedBack.{sized-in}
 use Rattle.inplace.specs.InPlace.{Stepped, Carried}
 use Rattle.inplace.proofs.InPlace.{cursor-at, flickerless-at}
 
 pub step-most : (c : Condition) (b : ℕ) (k : Condition) (r : ℕ) → Stepped c b k r → r ≤ 65
 step-most c b k r s = rw (s .takes) (figure-most c b)
-
-pub sized-in : (s : List ℕ) → 200 ≤ length s → Sized (conditionIn s)
-unfolding conditionIn
-sized-in s h =
-    record {
-      codes-40 = length-take-le 40 (drop 24 s) (simp length-drop (omega arith));
-      fonts-40 = length-take-le 40 (drop 64 s) (simp length-drop (omega arith));
-      users-96 = length-take-le 96 (drop 104 s) (simp length-drop (omega arith));
-      held-4 = length-take-le 4 (drop 16 s) (simp length-drop (omega arith));
-    }
 
 -- after i bytes of bs, from the condition c: what stands in s, and what is spent
 pub record Going (c : Condition) (bs : List ℕ) (s : List ℕ) (busy flickerless i : ℕ) : Type 0 where

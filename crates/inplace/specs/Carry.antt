@@ -1,21 +1,25 @@
 -- What bytes do to a condition, their busy time, and how many come while flickerless is on.
 use Prim.Native.Nat.{ℕ}
-use mathlib.Core.Bool.{cond, _&&_}
+use mathlib.Core.Bool.{cond, not}
 use mathlib.Core.List.{List}
 use lib.ListN.{length}
-use lib.Dec.{leb}
+use lib.Dec.{eqb, ltb}
 use Rattle.condition.specs.declared.Condition.{Condition}
 use Rattle.condition.specs.Condition.{wellFormed}
 use Rattle.condition.specs.Bytes.{runOf}
 use Rattle.condition.specs.Busy.{busyOf, flickerlessOf}
 use Rattle.inplace.specs.declared.After.{After}
 
--- a condition that is not well formed, and more than 32,768 bytes, are not taken: nothing is carried out
-abbrev pub untouchedOf : Condition → After
-untouchedOf c = record { condition = c; busy = 0; flickerless = 0 }
+-- 3: condition not well formed. 4: more than 32,768 bytes
+unfoldable pub carryRefusal : Condition → List ℕ → ℕ
+carryRefusal c bs = cond (not (wellFormed c)) 3 (cond (ltb 32768 (length bs)) 4 0)
+
+-- refused: nothing is carried out
+abbrev pub untouchedOf : ℕ → Condition → After
+untouchedOf n c = record { refusal = n; condition = c; busy = 0; flickerless = 0 }
 
 unfoldable pub afterOf : Condition → List ℕ → After
 afterOf c bs =
-    cond (wellFormed c && leb (length bs) 32768)
-    (record { condition = runOf c bs; busy = busyOf c bs; flickerless = flickerlessOf c bs })
-    (untouchedOf c)
+    cond (eqb (carryRefusal c bs) 0)
+    (record { refusal = 0; condition = runOf c bs; busy = busyOf c bs; flickerless = flickerlessOf c bs })
+    (untouchedOf (carryRefusal c bs) c)

@@ -1,10 +1,5 @@
 // What bytes do to a condition, worked out in place on the condition packed in 200 bytes.
 ghost use mathlib.Core.Path.{_≡_};
-ghost use mathlib.Core.Bool.{true};
-ghost use Prim.Native.Nat.{_≤_};
-ghost use lib.ListN.{length};
-ghost use Rattle.condition.specs.Condition.{wellFormed};
-ghost use Rattle.inplace.specs.InPlace.{Carried};
 ghost use Rattle.inplace.specs.Carry.{untouchedOf, afterOf};
 use condition::Condition;
 use turn::run_in;
@@ -20,46 +15,43 @@ mod turn;
 // The most bytes that are taken.
 pub const MOST_BYTES: usize = 32768;
 
-// The condition after bytes, their busy time, and how many came while flickerless was on.
+// What carrying bytes out answers: a refusal number, 0 when accepted, the condition after them, their busy time, and how many
+// came while flickerless was on.
 pub struct After {
+    pub refusal: u8,
     pub condition: Condition,
     pub busy: u32,
     pub flickerless: u32,
 }
 
-fn untouched(c: Condition) -> After
-    ensures { λ r. ⌜ r ≡ untouchedOf c ⌝ }
+fn untouched(refusal: u8, c: Condition) -> After
+    ensures { λ r. ⌜ r ≡ untouchedOf refusal c ⌝ }
 {
     After {
+        refusal: refusal,
         condition: c,
         busy: 0,
         flickerless: 0,
     }
 }
 
-fn carry_in(c: Condition, bytes: &[u8]) -> After
-    requires { ⌜ (wellFormed c ≡ true) × (length (now bytes) ≤ 32768) ⌝ }
-    ensures { λ r. ⌜ Carried c (now (bytes .entry)) (r .condition) (r .busy) (r .flickerless) ⌝ }
-{
-    let mut s = layout::packed(c);
-    let spent = run_in(&mut s, bytes);
-    let after = layout::unpacked(&s);
-    After {
-        condition: after,
-        busy: spent.busy,
-        flickerless: spent.flickerless,
-    }
-}
-
-// The bytes are carried out in turn. A condition that is not well formed, and more than 32,768 bytes, are not taken.
+// The bytes are carried out in turn. 3 for a condition that is not well formed, 4 for more than 32,768 bytes.
 pub fn carry(c: Condition, bytes: &[u8]) -> After
     ensures { λ r. ⌜ r ≡ afterOf c (now (bytes .entry)) ⌝ }
 {
     if !c.well_formed() {
-        return untouched(c);
+        return untouched(3, c);
     }
     if MOST_BYTES < bytes.len() {
-        return untouched(c);
+        return untouched(4, c);
     }
-    carry_in(c, bytes)
+    let mut s = layout::packed(c);
+    let spent = run_in(&mut s, bytes);
+    let after = layout::unpacked(&s);
+    After {
+        refusal: 0,
+        condition: after,
+        busy: spent.busy,
+        flickerless: spent.flickerless,
+    }
 }

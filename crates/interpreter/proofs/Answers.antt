@@ -1,25 +1,27 @@
 -- What each way through a run comes to.
 use Prim.Native.Nat.{ℕ, _+_, _≤_, _<_}
 use mathlib.Core.Path.{_≡_, refl, ap, sym, _∙_}
-use mathlib.Core.Bool.{Bool, true, false, _&&_}
+use mathlib.Core.Bool.{Bool, true, false, cond, not, _&&_}
 use mathlib.Core.List.{List, [], _∷_, _++_, flatten}
 use native.Mathlib.Omega.{arith}
-use lib.Dec.{eqb, leb}
+use lib.Dec.{eqb, ltb, leb}
 use lib.ListN.{length, getD, length-append}
 use native.Mathlib.Nat.{add-assoc, add-zero}
-use borrow.Author.Tests.{ne-eqb, lt-ltb, le-ltb, leb-true, eqb-true, eqb-false}
+use borrow.Author.Tests.{eq-eqb, ne-eqb, leb-true, eqb-true, eqb-false}
 use Rattle.users.proofs.Places.{by-test}
 use Rattle.condition.specs.declared.Condition.{Condition}
 use Rattle.condition.specs.Condition.{wellFormed}
 use Rattle.condition.specs.Bytes.{runOf}
 use Rattle.condition.specs.Busy.{busyOf, flickerlessOf}
 use Rattle.condition.proofs.Good.{Sized}
-use Rattle.condition.proofs.Places.{both}
+use Rattle.condition.proofs.Places.{both, and-false}
 use Rattle.condition.proofs.Kept.{run-kept}
 use Rattle.condition.proofs.Pieces.{run-append, busy-append, flickerless-append, busy-most, flickerless-most}
 use Rattle.interpreter.specs.declared.Tally.{Tally}
 use Rattle.interpreter.specs.declared.Ran.{Ran}
 use Rattle.inplace.specs.InPlace.{Carried}
+use Rattle.inplace.specs.Carry.{carryRefusal}
+use Rattle.inplace.proofs.Carrying.{accepts}
 use Rattle.interpreter.specs.Run.{limit, withinLimit, tallied, runRefusal, refusedOf, acceptedOf, runAnswer, inTurn, RunPromise, LentPromise}
 
 -- each number of a tally within its limit
@@ -46,36 +48,48 @@ unfolding runAnswer
 not-run c t bs r n e f h =
     record { answer = e ∙ sym (rw (f, ne-eqb n 0 h)); kept = λ z. absurd (h (sym (ap (λ (r : Ran). r .refusal) e) ∙ z)) }
 
-and-false : (a : Bool) → (a && false) ≡ false
-and-false true = refl
-and-false false = refl
+-- within its limits, a run is refused as carrying its bytes out is, and then by 5
+run-or-carry : (c : Condition) (t : Tally) (bs : List ℕ) → withinLimit t ≡ true
+    → runRefusal c t bs ≡ cond (eqb (carryRefusal c bs) 0) (cond (not (withinLimit (tallied t c bs))) 5 0) (carryRefusal c bs)
+unfolding runRefusal carryRefusal
+run-or-carry c t bs l = rw l (go (wellFormed c) (ltb 32768 (length bs)))
+  where
+    go : (w x : Bool) → _≡_ {A = ℕ} (cond (not (w && true)) 3 (cond x 4 (cond (not (withinLimit (tallied t c bs))) 5 0)))
+        (cond (eqb (cond (not w) 3 (cond x 4 0)) 0) (cond (not (withinLimit (tallied t c bs))) 5 0) (cond (not w) 3 (cond x 4 0)))
+    go true true = refl
+    go true false = refl
+    go false x = refl
+
+-- a condition that is not well formed is refused by 3, whatever else is wrong
+pub run-unformed : (c : Condition) (t : Tally) (bs : List ℕ) → wellFormed c ≡ false → runAnswer c t bs .refusal ≡ 3
+unfolding runAnswer runRefusal
+run-unformed c t bs w = rw w
 
 module _ (c : Condition) (t : Tally) (bs : List ℕ) (r : Ran) where
-  pub not-formed : wellFormed c ≡ false → r ≡ refusedOf 3 c t → RunPromise c t bs r
-  unfolding runRefusal
-  not-formed w e = not-run c t bs r 3 e (rw w) (λ z. omega arith)
-
   pub above-limit : withinLimit t ≡ false → r ≡ refusedOf 3 c t → RunPromise c t bs r
   unfolding runRefusal
   above-limit l e = not-run c t bs r 3 e (rw (l, and-false)) (λ z. omega arith)
 
-  module _ (w : wellFormed c ≡ true) (l : withinLimit t ≡ true) where
-    pub too-long : 32768 < length bs → r ≡ refusedOf 4 c t → RunPromise c t bs r
-    unfolding runRefusal
-    too-long h e = not-run c t bs r 4 e (rw (w, l, lt-ltb 32768 (length bs) h)) (λ z. omega arith)
+  module _ (l : withinLimit t ≡ true) where
+    pub not-carried : (n : ℕ) → n ≡ carryRefusal c bs → (n ≡ 0 → ⊥) → r ≡ refusedOf n c t → RunPromise c t bs r
+    not-carried n f h e =
+        let k : eqb (carryRefusal c bs) 0 ≡ false = ne-eqb (carryRefusal c bs) 0 (λ z. h (f ∙ z)) in
+        not-run c t bs r n e (run-or-carry c t bs l ∙ rw (k, f)) h
 
-    module _ (h : length bs ≤ 32768) where
+    module _ (k : carryRefusal c bs ≡ 0) where
+      left : runRefusal c t bs ≡ cond (not (withinLimit (tallied t c bs))) 5 0
+      left = run-or-carry c t bs l ∙ rw (eq-eqb (carryRefusal c bs) 0 k)
+
       pub passes-limit : withinLimit (tallied t c bs) ≡ false → r ≡ refusedOf 5 c t → RunPromise c t bs r
-      unfolding runRefusal
-      passes-limit m e = not-run c t bs r 5 e (rw (w, l, le-ltb 32768 (length bs) h, m)) (λ z. omega arith)
+      passes-limit m e = not-run c t bs r 5 e (left ∙ rw m) (λ z. omega arith)
 
       pub accepted : withinLimit (tallied t c bs) ≡ true → Sized c → ((i : ℕ) → getD bs i 0 < 256)
           → r ≡ acceptedOf c t bs → RunPromise c t bs r
-      unfolding runAnswer runRefusal
+      unfolding runAnswer
       accepted m s b e =
           record {
-            answer = e ∙ sym (rw (w, l, le-ltb 32768 (length bs) h, m));
-            kept = λ z. ap (λ (r : Ran). wellFormed (r .condition)) e ∙ run-kept c bs s b w;
+            answer = e ∙ sym (rw (left, m));
+            kept = λ z. ap (λ (r : Ran). wellFormed (r .condition)) e ∙ run-kept c bs s b (accepts c bs k .0);
           }
 
 -- what a run adds is small

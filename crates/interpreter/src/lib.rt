@@ -2,7 +2,6 @@
 ghost use mathlib.Core.Path.{_≡_};
 ghost use Rattle.interpreter.specs.Run.{withinLimit, refusedOf, RunPromise, LentPromise};
 use condition::Condition;
-use inplace::MOST_BYTES;
 
 // What a run adds to: bytes, busy microseconds, and bytes received while flickerless was already on.
 pub struct Tally {
@@ -43,16 +42,13 @@ fn refused(n: u8, c: Condition, t: Tally) -> Ran
 pub fn run(c: Condition, t: Tally, bytes: &[u8]) -> Ran
     ensures { λ r. ⌜ RunPromise c t (now (bytes .entry)) r ⌝ }
 {
-    if !c.well_formed() {
-        return refused(3, c, t);
-    }
     if !within_limit(t) {
         return refused(3, c, t);
     }
-    if MOST_BYTES < bytes.len() {
-        return refused(4, c, t);
-    }
     let after = inplace::carry(c, bytes);
+    if after.refusal != 0 {
+        return refused(after.refusal, c, t);
+    }
     let condition = after.condition;
     let next = Tally {
         bytes: t.bytes + bytes.len() as u32,

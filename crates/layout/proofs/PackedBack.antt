@@ -5,8 +5,8 @@ use mathlib.Core.Bool.{Bool, true, false}
 use mathlib.Core.List.{List, [], _∷_, _++_, append-assoc, append-nil}
 use native.Mathlib.Omega.{arith}
 use lib.Dec.{eqb}
-use lib.ListN.{length, getD, take, drop, replicate, length-append}
-use lib.Seq.{take-at, drop-at, drop-drop, ext-getD}
+use lib.ListN.{length, getD, take, drop, replicate, length-append, length-drop}
+use lib.Seq.{take-at, drop-at, drop-drop, length-take-le, ext-getD}
 use borrow.Author.Tests.{ne-eqb, lt-ltb, le-ltb}
 use Rattle.row.specs.Row.{laid}
 use Rattle.condition.specs.declared.Condition.{Condition}
@@ -29,6 +29,17 @@ too-few s h = rw (lt-ltb _ _ h)
 pub length-packed : (c : Condition) → Sized c → length (packedOf c) ≡ 200
 unfolding packedOf headOf
 length-packed c z = simp (length-append, z .codes-40, z .fonts-40, z .users-96)
+
+-- the rows that stand in 200 bytes have their lengths
+pub sized-in : (s : List ℕ) → 200 ≤ length s → Sized (conditionIn s)
+unfolding conditionIn
+sized-in s h =
+    record {
+      codes-40 = length-take-le 40 (drop 24 s) (simp length-drop (omega arith));
+      fonts-40 = length-take-le 40 (drop 64 s) (simp length-drop (omega arith));
+      users-96 = length-take-le 96 (drop 104 s) (simp length-drop (omega arith));
+      held-4 = length-take-le 4 (drop 16 s) (simp length-drop (omega arith));
+    }
 
 -- the parts of the first 200 bytes, copied out, and the fields
 pub unpacking : (s x y w h : List ℕ) (p : Pending) → 200 ≤ length s → x ≡ laid (take 40 (drop 24 s)) (replicate 40 0)

@@ -1,9 +1,10 @@
 // Where each part of a condition stands in a block's first 200 bytes (document 01, Block).
 ghost use mathlib.Core.Path.{_≡_};
+ghost use mathlib.Core.Bool.{_&&_};
 ghost use mathlib.Core.List.{_++_};
 ghost use Prim.Native.Nat.{_≤_};
 ghost use lib.ListN.{length};
-ghost use Rattle.condition.specs.Condition.{heldOf};
+ghost use Rattle.condition.specs.Condition.{heldOf, numbersGood, scrollGood, wellFormed};
 ghost use Rattle.layout.specs.Layout.{flag, kindOf, codeOf, headOf, packedOf, pendingOf, conditionIn, unpackedOf};
 use condition::Condition;
 use condition::Pending;
@@ -229,4 +230,44 @@ pub fn unpacked(s: &[u8]) -> Condition
         return none.condition;
     }
     unpack(s)
+}
+
+// The numbers that stand in the bytes, and the rule for scroll-on.
+fn numbers_in(s: &[u8]) -> bool
+    requires { ⌜ 200 ≤ length (now s) ⌝ }
+    ensures { λ r. ⌜ r ≡ (numbersGood (conditionIn (now (s .entry))) && scrollGood (conditionIn (now (s .entry)))) ⌝ }
+{
+    ((s[CURSOR] as usize) < Condition::CELLS)
+        & (1 <= s[MODE])
+        & (s[MODE] <= Condition::LAST_MODE)
+        & (s[FONT] <= Condition::LAST_FONT)
+        & (s[LINK] <= Condition::LAST_FONT)
+        & (s[LUMINANCE] <= Condition::FULL_LUMINANCE)
+        & (s[COUNT] <= Condition::MOST_USERS)
+        & (!(s[SCROLLING] == 1) | ((s[MODE] == 3) & (s[CURSOR] % Condition::COLUMNS == 19)))
+}
+
+fn formed_in(s: &[u8]) -> bool
+    requires { ⌜ 200 ≤ length (now s) ⌝ }
+    ensures { λ r. ⌜ r ≡ wellFormed (conditionIn (now (s .entry))) ⌝ }
+{
+    let p = pending_in(s[KIND], s[CODE], s[HOLDS]);
+    numbers_in(s)
+        & condition::rows_formed(
+            &s[FONTS..USERS],
+            s[COUNT],
+            &s[USERS..PACKED],
+            p,
+            &s[HELD..COUNT],
+        )
+}
+
+// Whether the condition that stands in such bytes is well formed, told in the bytes. Power-up is, so fewer than 200 are too.
+pub fn is_formed(s: &[u8]) -> bool
+    ensures { λ r. ⌜ r ≡ wellFormed (unpackedOf (now (s .entry))) ⌝ }
+{
+    if s.len() < PACKED {
+        return true;
+    }
+    formed_in(s)
 }

@@ -67,6 +67,12 @@ clear long ranged blocked short c wanted e =
       room = p10 .0;
     }
 
+-- a condition that is not well formed is refused by 3 where the lengths are right, whatever else is wrong
+pub unformed : (long ranged blocked short : Bool) (c : Condition) (wanted : List ℕ) → long ≡ true → wellFormed c ≡ false
+    → refusalBy long ranged blocked short c wanted ≡ 3
+unfolding refusalBy
+unformed long ranged blocked short c wanted h w = rw (h, w)
+
 -- 8 is not given: no user character on a code that the planner moves with
 record Free (u : Users) : Type 0 where
   at08 : isUser u 0x08 ≡ false

@@ -1,52 +1,55 @@
 -- What the host's questions answer, by where they stop.
-use mathlib.Core.Path.{_≡_, sym, ap, _∙_}
+use mathlib.Core.Path.{_≡_, ap, _∙_}
+use mathlib.Core.Bool.{false}
 use mathlib.Core.List.{List}
 use Prim.Native.Nat.{ℕ}
 use borrow.Author.Tests.{ne-eqb}
 use Rattle.condition.specs.declared.Condition.{Condition}
-use Rattle.condition.specs.declared.Outcome.{Outcome}
+use Rattle.condition.specs.Condition.{wellFormed}
 use Rattle.glass.specs.declared.Seen.{Seen}
 use Rattle.glass.specs.declared.Answer.{Answer}
 use Rattle.glass.specs.Answers.{viewAnswer, dotAnswer, underlineAnswer, litAnswer}
-use Rattle.layout.specs.Layout.{conditionIn}
-use Rattle.block.specs.Reading.{ReadPromise}
-use Rattle.sign.specs.Host.{hostRefusalBy}
+use Rattle.glass.proofs.Refusals.{view-unformed, dot-unformed, underline-unformed, lit-unformed}
+use Rattle.layout.specs.Layout.{conditionIn, unpackedOf}
+use Rattle.block.specs.Tidy.{damageOf}
 use Rattle.sign.specs.Questions.{showsNumber, askedAs, hostAsked, hostTold, hostView, hostDot, hostUnderline, hostLit}
-use Rattle.sign.proofs.Hosted.{read-refused, read-taken}
+use Rattle.sign.proofs.Hosted.{damaged-by, in-block, left-to}
 
-module _ (b : List ℕ) (g : Outcome) (p : ReadPromise b g) where
-  -- the block is refused, whatever is asked
-  pub asked-unread : (n v x : ℕ) → (g .refusal ≡ 0 → ⊥) → askedAs (g .refusal) x ≡ hostAsked b n v
-  unfolding hostAsked hostRefusalBy askedAs
-  asked-unread n v x bad = rw (← read-refused b g p) (simp (ne-eqb (g .refusal) 0 bad))
+module _ (b : List ℕ) (m : ℕ) (d : m ≡ damageOf b) where
+  -- the block is damaged, whatever is asked
+  pub asked-damaged : (n v x : ℕ) → (m ≡ 0 → ⊥) → askedAs m x ≡ hostAsked b n v
+  unfolding hostAsked askedAs
+  asked-damaged n v x bad = rw (damaged-by b m d n bad) (simp (ne-eqb m 0 bad))
 
-  -- the block is read, and the question is asked of the condition that stands there
-  asked-read : {A : Type 0} (ask : Condition → A) (number value : A → ℕ) (a : A) → g .refusal ≡ 0 → a ≡ ask (g .condition)
-      → askedAs (number a) (value a) ≡ hostAsked b (number (ask (conditionIn b))) (value (ask (conditionIn b)))
-  unfolding hostAsked hostRefusalBy
-  asked-read ask number value a ok e = rw (e ∙ ap ask (read-taken b g p ok), sym (read-refused b g p) ∙ ok)
+  -- it is not, and the question is asked of the condition that stands there
+  module _ (c : Condition) (z : m ≡ 0) (ec : c ≡ unpackedOf b) where
+    asked-read : {A : Type 0} (ask : Condition → A) (number value : A → ℕ)
+        → (wellFormed (conditionIn b) ≡ false → number (ask (conditionIn b)) ≡ 3)
+        → (a : A) → a ≡ ask c
+        → askedAs (number a) (value a) ≡ hostAsked b (number (ask (conditionIn b))) (value (ask (conditionIn b)))
+    unfolding hostAsked
+    asked-read ask number value u a e = rw (e ∙ ap ask (in-block b m d z c ec), left-to b m d z _ u)
 
-  told-read : (ask : Condition → Answer) (a : Answer) → g .refusal ≡ 0 → a ≡ ask (g .condition)
-      → askedAs (a .refusal) (a .value) ≡ hostTold b (ask (conditionIn b))
-  told-read ask = asked-read ask (λ (a : Answer). a .refusal) (λ (a : Answer). a .value)
+    told-read : (ask : Condition → Answer) → (wellFormed (conditionIn b) ≡ false → ask (conditionIn b) .refusal ≡ 3)
+        → (a : Answer) → a ≡ ask c → askedAs (a .refusal) (a .value) ≡ hostTold b (ask (conditionIn b))
+    told-read ask = asked-read ask (λ (a : Answer). a .refusal) (λ (a : Answer). a .value)
 
-  pub view-read : (position : ℕ) (s : Seen) → g .refusal ≡ 0 → s ≡ viewAnswer (g .condition) position
-      → askedAs (s .refusal) (showsNumber (s .shows)) ≡ hostView b position
-  unfolding hostView
-  view-read position =
-      asked-read (λ (c : Condition). viewAnswer c position) (λ (s : Seen). s .refusal) (λ (s : Seen). showsNumber (s .shows))
+    pub view-read : (position : ℕ) (s : Seen) → s ≡ viewAnswer c position
+        → askedAs (s .refusal) (showsNumber (s .shows)) ≡ hostView b position
+    unfolding hostView
+    view-read position =
+        asked-read (λ (c : Condition). viewAnswer c position) (λ (s : Seen). s .refusal) (λ (s : Seen). showsNumber (s .shows))
+        (λ w. view-unformed (conditionIn b) w position)
 
-  pub dot-read : (code k : ℕ) (a : Answer) → g .refusal ≡ 0 → a ≡ dotAnswer (g .condition) code k
-      → askedAs (a .refusal) (a .value) ≡ hostDot b code k
-  unfolding hostDot
-  dot-read code k = told-read (λ (c : Condition). dotAnswer c code k)
+    pub dot-read : (code k : ℕ) (a : Answer) → a ≡ dotAnswer c code k → askedAs (a .refusal) (a .value) ≡ hostDot b code k
+    unfolding hostDot
+    dot-read code k = told-read (λ (c : Condition). dotAnswer c code k) (λ w. dot-unformed (conditionIn b) w code k)
 
-  pub underline-read : (code : ℕ) (a : Answer) → g .refusal ≡ 0 → a ≡ underlineAnswer (g .condition) code
-      → askedAs (a .refusal) (a .value) ≡ hostUnderline b code
-  unfolding hostUnderline
-  underline-read code = told-read (λ (c : Condition). underlineAnswer c code)
+    pub underline-read : (code : ℕ) (a : Answer) → a ≡ underlineAnswer c code
+        → askedAs (a .refusal) (a .value) ≡ hostUnderline b code
+    unfolding hostUnderline
+    underline-read code = told-read (λ (c : Condition). underlineAnswer c code) (λ w. underline-unformed (conditionIn b) w code)
 
-  pub lit-read : (code : ℕ) (a : Answer) → g .refusal ≡ 0 → a ≡ litAnswer (g .condition) code
-      → askedAs (a .refusal) (a .value) ≡ hostLit b code
-  unfolding hostLit
-  lit-read code = told-read (λ (c : Condition). litAnswer c code)
+    pub lit-read : (code : ℕ) (a : Answer) → a ≡ litAnswer c code → askedAs (a .refusal) (a .value) ≡ hostLit b code
+    unfolding hostLit
+    lit-read code = told-read (λ (c : Condition). litAnswer c code) (λ w. lit-unformed (conditionIn b) w code)

@@ -1,7 +1,7 @@
 -- What the host's calls leave, by where they stop.
 use mathlib.Core.Path.{_≡_, refl, sym, ap, _∙_, subst}
 use mathlib.Core.Logic.{_⊎_, inl, inr, ⊎-elim}
-use mathlib.Core.Bool.{Bool, true, false, cond}
+use mathlib.Core.Bool.{Bool, true, false, cond, not}
 use mathlib.Core.List.{List}
 use Prim.Native.Nat.{ℕ, _+_}
 use native.Mathlib.Omega.{arith}
@@ -11,35 +11,55 @@ use borrow.Author.Tests.{eqb-true, eqb-false, eq-eqb, ne-eqb, leb-true}
 use Rattle.moves.proofs.Lists.{bool}
 use Rattle.condition.specs.declared.Condition.{Condition}
 use Rattle.condition.specs.declared.Outcome.{Outcome}
-use Rattle.condition.specs.Condition.{powerUp}
-use Rattle.condition.specs.Condition.{powerUpAnswer}
+use Rattle.condition.specs.Condition.{wellFormed, powerUp, powerUpAnswer}
 use Rattle.condition.proofs.Good.{Sized, run-sized}
 use Rattle.condition.proofs.Kept.{power-up-good}
-use Rattle.layout.specs.Layout.{conditionIn}
-use Rattle.block.specs.Block.{blockOf}
-use Rattle.block.specs.Reading.{readRefusal, ReadPromise}
+use Rattle.layout.specs.Layout.{conditionIn, unpackedOf}
+use Rattle.layout.proofs.PackedBack.{sized-in}
+use Rattle.block.specs.Block.{blockOf, putOver}
+use Rattle.block.specs.Reading.{readRefusal}
+use Rattle.block.specs.Tidy.{damageOf}
 use Rattle.block.specs.Writing.{writeRefusal, writeAnswer, writeOut, WritePromise}
 use Rattle.block.specs.declared.Written.{Written}
 use Rattle.row.specs.Row.{laid}
 use Rattle.layout.proofs.Parts.{filled}
-use Rattle.block.proofs.Sealing.{length-block}
-use Rattle.block.proofs.RoundTrip.{accepted, refusal-of, reread}
+use Rattle.block.proofs.Sealing.{put-whole}
+use Rattle.block.proofs.Damaged.{damaged, Undamaged, undamaged}
+use Rattle.block.proofs.RoundTrip.{refusal-of, reread}
 use Rattle.interpreter.specs.declared.Tally.{Tally}
 use Rattle.interpreter.specs.declared.Ran.{Ran}
 use Rattle.condition.specs.Bytes.{runOf}
 use Rattle.interpreter.specs.Run.{RunPromise, refusedOf, tallied, runRefusal, runAnswer}
-use Rattle.inplace.proofs.Running.{sized-in}
+use Rattle.interpreter.proofs.Answers.{run-unformed}
 use Rattle.planner.specs.declared.Planned.{Planned}
 use Rattle.planner.specs.Answer.{bytesBy, Promise, Plans, PlansFonts}
 use Rattle.sign.specs.Host.{tallyAt, tallyBytes, ranOf, hostRunRefusal, blockAfter, tallyAfter, HostRun, hostRefusalBy, hostAnswer, HostPromise, hostPowerUpRefusal, hostPowerUpOut, HostPowerUp}
 
--- a reading that is refused, or accepted
-pub read-refused : (b : List ℕ) (g : Outcome) → ReadPromise b g → g .refusal ≡ readRefusal b
-read-refused b g p = ap (λ (o : Outcome). o .refusal) (p .answer) ∙ refusal-of b
+-- ---- the block is looked at once: for damage, with the number m
 
-pub read-taken : (b : List ℕ) (g : Outcome) → ReadPromise b g → g .refusal ≡ 0 → g .condition ≡ conditionIn b
-read-taken b g p ok =
-    ap (λ (o : Outcome). o .condition) (p .answer ∙ accepted b (sym (read-refused b g p) ∙ ok) .answer)
+module _ (b : List ℕ) (m : ℕ) (d : m ≡ damageOf b) where
+  -- a damaged block is refused so, whatever the call would answer
+  pub damaged-by : (n : ℕ) → (m ≡ 0 → ⊥) → hostRefusalBy true b n ≡ m
+  unfolding hostRefusalBy
+  damaged-by n h =
+      let e : readRefusal b ≡ m = damaged b (λ z. h (d ∙ z)) ∙ sym d in
+      rw (e, ne-eqb m 0 h)
+
+  module _ (z : m ≡ 0) where
+    whole : Undamaged b
+    whole = undamaged b (sym d ∙ z)
+
+    pub in-block : (c : Condition) → c ≡ unpackedOf b → c ≡ conditionIn b
+    in-block c e = e ∙ whole .held
+
+    -- one that is not is refused as the call refuses, which gives 3 where the condition is not well formed: the order is the same
+    pub left-to : (n : ℕ) → (wellFormed (conditionIn b) ≡ false → n ≡ 3) → hostRefusalBy true b n ≡ n
+    unfolding hostRefusalBy
+    left-to n u = rw (whole .refusal) (go (wellFormed (conditionIn b)) refl)
+      where
+        go : (w : Bool) → wellFormed (conditionIn b) ≡ w → cond (not (eqb (cond w 0 3) 0)) (cond w 0 3) n ≡ n
+        go true e = refl
+        go false e = sym (u e)
 
 -- ---- the run
 
@@ -58,83 +78,87 @@ run-short b t bs h =
     let e = ne-eqb (length t) 12 h in
     record { answer = simp e; block = simp e; tally = simp e; again = λ z. let q : ⊥ = omega arith in absurd q }
 
-pub run-unread : (b t bs : List ℕ) (g : Outcome) → length t ≡ 12 → ReadPromise b g → (g .refusal ≡ 0 → ⊥) → HostRun b t bs (g .refusal) b t
-unfolding hostRunRefusal blockAfter tallyAfter
-run-unread b t bs g h p bad =
-    let e₁ = eq-eqb (length t) 12 h in
-    let e₂ : eqb (readRefusal b) 0 ≡ false = rw (read-refused b g p) at (ne-eqb (g .refusal) 0 bad) in
-    record { answer = simp (e₁, e₂) (read-refused b g p); block = simp (e₁, e₂); tally = simp (e₁, e₂); again = λ z. absurd (bad z) }
+module _ (b t bs : List ℕ) (h : length t ≡ 12) where
+  by-block : hostRunRefusal b t bs ≡ hostRefusalBy true b (ranOf b t bs .refusal)
+  unfolding hostRunRefusal hostRefusalBy
+  by-block = rw (eq-eqb (length t) 12 h)
 
-module _ (b t bs : List ℕ) (g : Outcome) (x : Tally) (r : Ran) (h : length t ≡ 12) (p : ReadPromise b g) (ok : g .refusal ≡ 0)
-    (ex : x ≡ tallyAt t) (q : RunPromise (g .condition) x bs r) where
-  told : r ≡ ranOf b t bs
-  told = q .answer ∙ ap (λ (c : Condition). runAnswer c x bs) (read-taken b g p ok) ∙ ap (λ (y : Tally). runAnswer (conditionIn b) y bs) ex
+  -- refused, by its number: nothing changes
+  run-refused : (n : ℕ) → hostRunRefusal b t bs ≡ n → (n ≡ 0 → ⊥) → HostRun b t bs n b t
+  unfolding blockAfter tallyAfter
+  run-refused n e bad =
+      let f : eqb (hostRunRefusal b t bs) 0 ≡ false = rw e (ne-eqb n 0 bad) in
+      record { answer = sym e; block = rw f; tally = rw f; again = λ z. absurd (bad z) }
 
-  heard : eqb (readRefusal b) 0 ≡ true
-  heard = rw (read-refused b g p) at (eq-eqb (g .refusal) 0 ok)
+  module _ (m : ℕ) (d : m ≡ damageOf b) where
+    pub run-damaged : (m ≡ 0 → ⊥) → HostRun b t bs m b t
+    run-damaged bad = run-refused m (by-block ∙ damaged-by b m d _ bad) bad
 
-  pub run-stopped : (r .refusal ≡ 0 → ⊥) → HostRun b t bs (r .refusal) b t
-  unfolding hostRunRefusal blockAfter tallyAfter
-  run-stopped bad =
-      let e₁ = eq-eqb (length t) 12 h in
-      let e₃ : eqb (ranOf b t bs .refusal) 0 ≡ false = rw told at (ne-eqb (r .refusal) 0 bad) in
-      record { answer = simp (e₁, heard, told); block = simp (e₁, heard, e₃); tally = simp (e₁, heard, e₃); again = λ z. absurd (bad z) }
+    module _ (c : Condition) (x : Tally) (r : Ran) (z : m ≡ 0) (ec : c ≡ unpackedOf b) (ex : x ≡ tallyAt t)
+        (q : RunPromise c x bs r) where
+      told : r ≡ ranOf b t bs
+      told =
+          q .answer ∙ ap (λ (c : Condition). runAnswer c x bs) (in-block b m d z c ec)
+          ∙ ap (λ (y : Tally). runAnswer (conditionIn b) y bs) ex
 
-  run-done : (b′ t′ : List ℕ) → r .refusal ≡ 0 → Sized (r .condition) → b′ ≡ blockOf (r .condition) → t′ ≡ tallyBytes (r .tally) → HostRun b t bs 0 b′ t′
-  unfolding hostRunRefusal blockAfter tallyAfter
-  run-done b′ t′ good z eb et =
-      let e₁ = eq-eqb (length t) 12 h in
-      let e₃ : eqb (ranOf b t bs .refusal) 0 ≡ true = rw told at (eq-eqb (r .refusal) 0 good) in
-      record {
-        answer = simp (e₁, heard) (sym good ∙ ap (λ (y : Ran). y .refusal) told);
-        block = eb ∙ simp (e₁, heard, e₃, told);
-        tally = et ∙ simp (e₁, heard, e₃, told);
-        again = λ _. ap readRefusal eb ∙ sym (refusal-of (blockOf (r .condition))) ∙ ap (λ (o : Outcome). o .refusal) (reread (r .condition) z (q .kept good));
-      }
+      number : hostRunRefusal b t bs ≡ r .refusal
+      number =
+          by-block ∙ left-to b m d z _ (run-unformed (conditionIn b) (tallyAt t) bs) ∙ ap (λ (y : Ran). y .refusal) (sym told)
 
-  -- the block and the tally are laid over the lent ones
-  pub run-written : (b′ t′ w n : List ℕ) → r .refusal ≡ 0 → w ≡ blockOf (r .condition) → b′ ≡ laid w b
-      → n ≡ tallyBytes (r .tally) → t′ ≡ laid n t → HostRun b t bs 0 b′ t′
-  unfolding tallyBytes
-  run-written b′ t′ w n good ew eb en et =
-      let room : length b ≡ 512 = accepted b (sym (read-refused b g p) ∙ ok) .long in
-      let z : Sized (r .condition) = rw told (ran-sized (conditionIn b) (tallyAt t) bs (sized-in b (omega arith))) in
-      let long : length w ≡ 512 = ap length ew ∙ length-block (r .condition) z in
-      let twelve : length n ≡ 12 = ap length en in
-      run-done b′ t′ good z (eb ∙ filled w b 512 long room ∙ ew) (et ∙ filled n t 12 twelve h ∙ en)
+      pub run-stopped : (r .refusal ≡ 0 → ⊥) → HostRun b t bs (r .refusal) b t
+      run-stopped = run-refused (r .refusal) number
+
+      run-done : (b′ t′ : List ℕ) → r .refusal ≡ 0 → Sized (r .condition) → b′ ≡ blockOf (r .condition) → t′ ≡ tallyBytes (r .tally)
+          → HostRun b t bs 0 b′ t′
+      unfolding blockAfter tallyAfter
+      run-done b′ t′ good s eb et =
+          let e : eqb (hostRunRefusal b t bs) 0 ≡ true = eq-eqb _ 0 (number ∙ good) in
+          record {
+            answer = sym (number ∙ good);
+            block = eb ∙ simp (e, told);
+            tally = et ∙ simp (e, told);
+            again =
+                λ _. ap readRefusal eb ∙ sym (refusal-of (blockOf (r .condition)))
+                ∙ ap (λ (o : Outcome). o .refusal) (reread (r .condition) s (q .kept good));
+          }
+
+      -- the block is put over the lent one, and the tally is laid over the lent one
+      pub run-written : (b′ t′ n : List ℕ) → r .refusal ≡ 0 → b′ ≡ putOver (r .condition) b → n ≡ tallyBytes (r .tally)
+          → t′ ≡ laid n t
+          → HostRun b t bs 0 b′ t′
+      unfolding tallyBytes
+      run-written b′ t′ n good eb en et =
+          let room : length b ≡ 512 = whole b m d z .long in
+          let s : Sized (r .condition) = rw told (ran-sized (conditionIn b) (tallyAt t) bs (sized-in b (omega arith))) in
+          let twelve : length n ≡ 12 = ap length en in
+          run-done b′ t′ good s (eb ∙ put-whole (r .condition) b room) (et ∙ filled n t 12 twelve h ∙ en)
 
 -- ---- the plans
 
 -- a call that is refused for its lengths, or for the block, or by the planner
 module _ (b : List ℕ) (n : ℕ) (bytes : List ℕ) (For : List ℕ → Type 0) (out : List ℕ) (long : Bool) where
   -- the refusal number of the call, and an answer by it
-  refused-by : (number m : ℕ) → m ≡ number → (m ≡ 0 → ⊥) → HostPromise number bytes For out (256 + m) out
+  refused-by : (number k : ℕ) → number ≡ k → (k ≡ 0 → ⊥) → HostPromise number bytes For out (256 + k) out
   unfolding hostAnswer bytesBy
-  refused-by number m e z =
-      let t = ne-eqb number 0 (λ (h : number ≡ 0). z (e ∙ h)) in
+  refused-by number k e bad =
+      let t : eqb number 0 ≡ false = rw e (ne-eqb k 0 bad) in
       record { answer = rw (t, e); buffer = rw t; delivers = λ l. absurd (omega arith) }
 
   pub plan-short : long ≡ false → HostPromise (hostRefusalBy long b n) bytes For out (256 + 1) out
   unfolding hostRefusalBy
   plan-short e = refused-by _ 1 (rw e) (λ z. omega arith)
 
-  module _ (g : Outcome) (fit : long ≡ true) (p : ReadPromise b g) where
-    pub plan-unread : (g .refusal ≡ 0 → ⊥) → HostPromise (hostRefusalBy long b n) bytes For out (256 + g .refusal) out
-    unfolding hostRefusalBy
-    plan-unread bad =
-        let t : eqb (readRefusal b) 0 ≡ false = rw (read-refused b g p) at (ne-eqb (g .refusal) 0 bad) in
-        refused-by _ (g .refusal) (rw (fit, t) (read-refused b g p)) bad
-
-    number-is : g .refusal ≡ 0 → hostRefusalBy long b n ≡ n
-    unfolding hostRefusalBy
-    number-is ok = rw (fit, rw (read-refused b g p) at (eq-eqb (g .refusal) 0 ok))
+  module _ (fit : long ≡ true) (m : ℕ) (d : m ≡ damageOf b) where
+    pub plan-damaged : (m ≡ 0 → ⊥) → HostPromise (hostRefusalBy long b n) bytes For out (256 + m) out
+    plan-damaged bad = refused-by _ m (rw fit (damaged-by b m d n bad)) bad
 
     -- what the planner promises, given on
-    pub plan-done : (r : Planned) (k : ℕ) (left : List ℕ) → g .refusal ≡ 0 → Promise n bytes For out left r → k ≡ hostAnswer (r .refusal) (r .length)
-        → HostPromise (hostRefusalBy long b n) bytes For out k left
+    pub plan-done : (r : Planned) (k : ℕ) (left : List ℕ) → m ≡ 0 → (wellFormed (conditionIn b) ≡ false → n ≡ 3)
+        → Promise n bytes For out left r
+        → k ≡ hostAnswer (r .refusal) (r .length) → HostPromise (hostRefusalBy long b n) bytes For out k left
     unfolding hostAnswer bytesBy
-    plan-done r k left ok q e =
-        rw (number-is ok)
+    plan-done r k left z u q e =
+        rw (fit, left-to b m d z n u)
         (⊎-elim (λ (z : n ≡ 0). let ra : r .refusal ≡ 0 = ap (λ (y : Planned). y .refusal) (q .answer) ∙ z in
         let rl : r .length ≡ length bytes = ap (λ (y : Planned). y .length) (q .answer) ∙ rw (eq-eqb n 0 z) in
         let ek : k ≡ r .length = e ∙ rw (eq-eqb (r .refusal) 0 ra) in
@@ -147,14 +171,15 @@ module _ (b : List ℕ) (n : ℕ) (bytes : List ℕ) (For : List ℕ → Type 0)
         zero-or : (n : ℕ) → (n ≡ 0) ⊎ (n ≡ 0 → ⊥)
         zero-or n = ⊎-elim (λ (e : eqb n 0 ≡ true). inl (eqb-true n 0 e)) (λ (e : eqb n 0 ≡ false). inr (eqb-false n 0 e)) (bool (eqb n 0))
 
--- the planner's promise of the condition that was read, as one of the condition in the block
-pub plan-read : (b w : List ℕ) (k : ℕ) (out left : List ℕ) (g : Outcome) (r : Planned) → ReadPromise b g → g .refusal ≡ 0
-    → Plans (g .condition) w k out left r → Plans (conditionIn b) w k out left r
-plan-read b w k out left g r p ok q = subst (λ (c : Condition). Plans c w k out left r) (read-taken b g p ok) q
+-- the planner's promise of the condition that was unpacked, as one of the condition in the block
+module _ (b : List ℕ) (c : Condition) (e : c ≡ conditionIn b) where
+  pub plan-read : (w : List ℕ) (k : ℕ) (out left : List ℕ) (r : Planned) → Plans c w k out left r
+      → Plans (conditionIn b) w k out left r
+  plan-read w k out left r = subst (λ (c : Condition). Plans c w k out left r) e
 
-pub fonts-read : (b w f : List ℕ) (k : ℕ) (out left : List ℕ) (g : Outcome) (r : Planned) → ReadPromise b g → g .refusal ≡ 0
-    → PlansFonts (g .condition) w f k out left r → PlansFonts (conditionIn b) w f k out left r
-fonts-read b w f k out left g r p ok q = subst (λ (c : Condition). PlansFonts c w f k out left r) (read-taken b g p ok) q
+  pub fonts-read : (w f : List ℕ) (k : ℕ) (out left : List ℕ) (r : Planned) → PlansFonts c w f k out left r
+      → PlansFonts (conditionIn b) w f k out left r
+  fonts-read w f k out left r = subst (λ (c : Condition). PlansFonts c w f k out left r) e
 
 -- ---- power-up
 

@@ -2,8 +2,11 @@
 ghost use mathlib.Core.Path.{_≡_};
 ghost use Prim.Native.Nat.{_+_, _*_, _/_, _%_, _≤_, _<_};
 ghost use lib.ListN.{length};
+ghost use Rattle.layout.specs.Layout.{unpackedOf};
+ghost use Rattle.block.specs.Tidy.{damageOf};
 ghost use Rattle.sign.specs.Host.{numberAt, fourBytes, tallyAt, tallyBytes, hostAnswer, HostRun, HostPlan, HostFonts, HostPowerUp};
 use condition::Condition;
+use condition::Outcome;
 use interpreter::Tally;
 use planner::Planned;
 
@@ -81,6 +84,19 @@ fn tally_bytes(t: Tally) -> [u8; 12]
     ]
 }
 
+// The condition that stands in a block, well formed or not, and what the block is refused for whatever stands in it. So a call
+// looks at a block once: what it then has the library do refuses by 3 where the condition is not well formed.
+fn opened(block: &[u8]) -> Outcome
+    ensures { λ r. ⌜ (r .refusal ≡ damageOf (now (block .entry))) × (r .condition ≡ unpackedOf (now (block .entry))) ⌝ }
+{
+    let damage = block::damage(block);
+    let c = layout::unpacked(block);
+    Outcome {
+        refusal: damage,
+        condition: c,
+    }
+}
+
 // Runs bytes on the block and the tally that are lent; answers 0 or the refusal.
 #[no_mangle]
 pub extern "C" fn sign_run(block: &mut [u8], tally: &mut [u8], bytes: &[u8]) -> u32
@@ -89,7 +105,7 @@ pub extern "C" fn sign_run(block: &mut [u8], tally: &mut [u8], bytes: &[u8]) -> 
     if tally.len() != 12 {
         return 1;
     }
-    let got = block::read(block);
+    let got = opened(block);
     if got.refusal != 0 {
         return wide(got.refusal);
     }
@@ -100,8 +116,7 @@ pub extern "C" fn sign_run(block: &mut [u8], tally: &mut [u8], bytes: &[u8]) -> 
         return wide(ran.refusal);
     }
     let next = ran.condition;
-    let written = block::sealed(next);
-    row::copy(block, &written);
+    block::put(next, block);
     let after = ran.tally;
     let numbers = tally_bytes(after);
     row::copy(tally, &numbers);
@@ -132,7 +147,7 @@ pub extern "C" fn sign_plan(block: &[u8], codes: &[u8], cursor: u32, out: &mut [
     if codes.len() != 40 {
         return refused(1);
     }
-    let got = block::read(block);
+    let got = opened(block);
     if got.refusal != 0 {
         return refused(got.refusal);
     }
@@ -156,7 +171,7 @@ pub extern "C" fn sign_plan_fonts(
     if !long {
         return refused(1);
     }
-    let got = block::read(block);
+    let got = opened(block);
     if got.refusal != 0 {
         return refused(got.refusal);
     }

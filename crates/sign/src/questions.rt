@@ -1,6 +1,7 @@
 // The C host program's questions about the glass, on a lent block.
 ghost use mathlib.Core.Path.{_≡_};
 ghost use Rattle.sign.specs.Questions.{builtInNumber, showsNumber, askedAs, hostView, hostDot, hostUnderline, hostLit};
+use crate::opened;
 use glass::Shows;
 
 // A built-in character in its font, as a number.
@@ -41,7 +42,7 @@ fn asked(refusal: u8, value: u32) -> u32
 pub extern "C" fn sign_view(block: &[u8], position: u32) -> u32
     ensures { λ r. ⌜ r ≡ hostView (now (block .entry)) position ⌝ }
 {
-    let got = block::read(block);
+    let got = opened(block);
     if got.refusal != 0 {
         return asked(got.refusal, 0);
     }
@@ -56,7 +57,7 @@ pub extern "C" fn sign_view(block: &[u8], position: u32) -> u32
 pub extern "C" fn sign_dot(block: &[u8], code: u32, k: u32) -> u32
     ensures { λ r. ⌜ r ≡ hostDot (now (block .entry)) code k ⌝ }
 {
-    let got = block::read(block);
+    let got = opened(block);
     if got.refusal != 0 {
         return asked(got.refusal, 0);
     }
@@ -70,7 +71,7 @@ pub extern "C" fn sign_dot(block: &[u8], code: u32, k: u32) -> u32
 pub extern "C" fn sign_underline(block: &[u8], code: u32) -> u32
     ensures { λ r. ⌜ r ≡ hostUnderline (now (block .entry)) code ⌝ }
 {
-    let got = block::read(block);
+    let got = opened(block);
     if got.refusal != 0 {
         return asked(got.refusal, 0);
     }
@@ -84,7 +85,7 @@ pub extern "C" fn sign_underline(block: &[u8], code: u32) -> u32
 pub extern "C" fn sign_lit(block: &[u8], code: u32) -> u32
     ensures { λ r. ⌜ r ≡ hostLit (now (block .entry)) code ⌝ }
 {
-    let got = block::read(block);
+    let got = opened(block);
     if got.refusal != 0 {
         return asked(got.refusal, 0);
     }

@@ -1,6 +1,4 @@
-use native.Mathlib.Omega.{arith}
-use lib.ListN.{length-take}
-use Rattle.block.proofs.Sealing.{check-short, check-first}
+use Rattle.block.proofs.Sealing.{check-short}
 use borrow.Author.Needs.{needs}
 use Rattle.block.proofs.check.Statement.{statement}
 use Rattle.block.proofs.check.Tie as tie
@@ -11,16 +9,15 @@ weighed-requires c κs = search needs
 returns : tie.Need-returns
 returns c = check-short (c .before .before .before .args .block .now) _ (c .before .if1 .taken) (c .weighed .ensures)
 
-slice-aggregate-weighed : tie.Need-slice-aggregate-weighed
-slice-aggregate-weighed c = simp length-take (omega arith)
+is-rest-zero-requires : tie.Need-is-rest-zero-requires
+is-rest-zero-requires c κs = search needs
 
-weighed-requires-2 : tie.Need-weighed-requires-2
-weighed-requires-2 c κs = simp length-take (omega arith)
+check-by-requires : tie.Need-check-by-requires
+check-by-requires c κs = (search needs, c .is-rest-zero .ensures)
 
 returns-2 : tie.Need-returns-2
-returns-2 c = check-first (c .before .before .before .before .args .block .now) _ (c .weighed2 .ensures)
+returns-2 c = c .check-by .ensures
 
 pub check-spec : {M : Type 1} → statement M
 check-spec =
-    tie.close
-    (tie.spec weighed-requires returns slice-aggregate-weighed weighed-requires-2 returns-2)
+    tie.close (tie.spec weighed-requires returns is-rest-zero-requires check-by-requires returns-2)

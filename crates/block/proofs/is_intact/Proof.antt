@@ -5,9 +5,6 @@ use borrow.Author.Needs.{needs}
 use Rattle.block.proofs.is_intact.Statement.{statement}
 use Rattle.block.proofs.is_intact.Tie as tie
 
-check-requires : tie.Need-check-requires
-check-requires c κs = search needs
-
 shared-slice-read-result : tie.Need-shared-slice-read-result
 shared-slice-read-result c = search needs
 
@@ -30,17 +27,18 @@ shared-slice-read-result-5 : tie.Need-shared-slice-read-result-5
 shared-slice-read-result-5 c = search needs
 
 cast-result-2 : tie.Need-cast-result-2
-cast-result-2 c = omega (arith, c .before .before .before .before .before .check .ensures, check-below (c .before .before .before .before .before .before .before .args .block .now))
+cast-result-2 c =
+    let a = c .before .before .before .before .before in
+    omega (arith, a .pre .1, check-below (a .args .block .now))
 
 returns : tie.Need-returns
 unfolding intact
-returns c = rw (c .before .before .before .before .before .check .ensures)
+returns c = rw (c .before .before .before .before .before .pre .1)
 
 pub is-intact-spec : {M : Type 1} → statement M
 is-intact-spec =
     tie.close
     (tie.spec
-    check-requires
     shared-slice-read-result
     shared-slice-read-result-2
     shared-slice-read-result-3

@@ -39,21 +39,12 @@ part-up-to-end c = search needs
 up-to-requires : tie.Need-up-to-requires
 up-to-requires c κs = search needs
 
-sub-up-to-2 : tie.Need-sub-up-to-2
-sub-up-to-2 c = search needs
-
-part-up-to-start-2 : tie.Need-part-up-to-start-2
-part-up-to-start-2 c = search needs
-
-part-up-to-end-2 : tie.Need-part-up-to-end-2
-part-up-to-end-2 c = search needs
-
-up-to-requires-2 : tie.Need-up-to-requires-2
-up-to-requires-2 c κs = search needs
-
 returns : tie.Need-returns
 unfolding tidy
-returns c = rw (c .up-to2 .ensures, c .before .before .up-to .ensures, c .before .before .before .before .kind-good .ensures)
+returns c =
+    let k = c .before .before in
+    let a = k .before .before .before .before .before .before .before .before .before in
+    rw (c .up-to .ensures, k .kind-good .ensures, a .pre .1)
 
 pub is-tidy-spec : {M : Type 1} → statement M
 is-tidy-spec =
@@ -71,8 +62,4 @@ is-tidy-spec =
     part-up-to-start
     part-up-to-end
     up-to-requires
-    sub-up-to-2
-    part-up-to-start-2
-    part-up-to-end-2
-    up-to-requires-2
     returns)

@@ -1,6 +1,5 @@
-use mathlib.Core.Path.{_≡_, _∙_}
+use mathlib.Core.Path.{_∙_}
 use Prim.Native.Nat.{_<_}
-use lib.ListN.{length}
 use borrow.Author.Tests.{lt-leb}
 use Rattle.condition.proofs.Places.{held-good}
 use Rattle.condition.specs.Condition.{pendingGood, heldOf}
@@ -17,8 +16,11 @@ cast-n c = search needs
 returns : tie.Need-returns
 unfolding pendingGood
 returns c =
-    let e : 4 < heldOf (c .before .before .args .p) = rw (c .before .held-of .ensures) at (c .if1 .taken) in
+    let e : 4 < heldOf (c .before .before .before .args .p) = rw (c .before .held-of .ensures) at (c .if1 .taken) in
     rw (lt-leb _ _ e)
+
+sub-up-to : tie.Need-sub-up-to
+sub-up-to c = search needs
 
 part-up-to-start : tie.Need-part-up-to-start
 part-up-to-start c = search needs
@@ -33,8 +35,8 @@ returns-2 : tie.Need-returns-2
 unfolding pendingGood
 returns-2 c =
     let a = c .before .before .before .before .before .args in
-    let four : length (a .t2) ≡ 4 = search needs in
-    c .up-to .ensures ∙ held-good _ (heldOf (a .p)) (a .t2) four (c .before .before .before .before .held-of .ensures) (c .before .before .before .if1 .left)
+    c .up-to .ensures
+    ∙ held-good _ (heldOf (a .p)) (a .h .now) (c .before .before .before .held-of .ensures) (c .before .before .if1 .left)
 
 pub pending-good-spec : {M : Type 1} → statement M
 pending-good-spec =
@@ -43,6 +45,7 @@ pending-good-spec =
     held-of-requires
     cast-n
     returns
+    sub-up-to
     part-up-to-start
     part-up-to-end
     up-to-requires

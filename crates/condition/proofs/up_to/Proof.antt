@@ -1,46 +1,59 @@
-use mathlib.Core.Path.{_≡_, refl, sym, _∙_}
-use mathlib.Core.Bool.{true, false}
+use mathlib.Core.Path.{_≡_, refl, sym, ap, _∙_}
+use mathlib.Core.Logic.{_⊎_, inl, inr, ⊎-elim}
+use mathlib.Core.Bool.{Bool, true, false, _&&_}
 use mathlib.Core.List.{List}
-use Prim.Native.Nat.{ℕ, _+_, _-_, _<_, _≤_}
+use Prim.Native.Nat.{ℕ, suc, _+_, _-_, _<_, _≤_}
 use native.Mathlib.Numerals.{add-one}
 use native.Mathlib.Omega.{arith}
+use lib.Dec.{leb}
 use lib.ListN.{length, getD, drop, drop-of-length-le}
 use lib.Seq.{drop-cons}
-use borrow.Author.Tests.{le-leb, lt-leb}
+use borrow.Author.Tests.{le-leb, lt-leb, leb-true, leb-false}
 use Rattle.condition.specs.Condition.{allUpTo}
+use Rattle.condition.proofs.Places.{and-false}
 use Rattle.condition.proofs.up_to.Statement.{statement}
 use Rattle.condition.proofs.up_to.Tie as tie
 
--- a turn, a stop and the end
-turned : (n : ℕ) (s : List ℕ) (i : ℕ) → i < length s → getD s i 0 ≤ n → allUpTo n (drop i s) ≡ allUpTo n (drop (i + 1) s)
+-- a turn: m is the most so far, k with one byte more
+turned : (n : ℕ) (s : List ℕ) (i m k : ℕ) → i < length s → m ≤ k → getD s i 0 ≤ k → (k ≡ m) ⊎ (k ≡ getD s i 0)
+    → (leb m n && allUpTo n (drop i s)) ≡ (leb k n && allUpTo n (drop (i + 1) s))
 unfolding allUpTo
-turned n s i h e = rw (add-one i, drop-cons s i 0 h, le-leb _ _ e)
+turned n s i m k h hm hx hk = rw (add-one i, drop-cons s i 0 h) (go (leb k n) refl)
+  where
+    go : (t : Bool) → leb k n ≡ t
+        → (leb m n && (leb (getD s i 0) n && allUpTo n (drop (suc i) s))) ≡ (t && allUpTo n (drop (suc i) s))
+    go true e =
+        let l : k ≤ n = leb-true k n e in
+        let a : m ≤ n = omega arith in
+        let b : getD s i 0 ≤ n = omega arith in
+        rw (le-leb m n a, le-leb (getD s i 0) n b)
+    go false e =
+        let l : n < k = omega (arith, leb-false k n e) in
+        ⊎-elim (λ (f : k ≡ m). let a : n < m = omega arith in rw (lt-leb m n a))
+        (λ (f : k ≡ getD s i 0). let a : n < getD s i 0 = omega arith in rw (lt-leb (getD s i 0) n a) (and-false (leb m n))) hk
 
-stopped : (n : ℕ) (s : List ℕ) (i : ℕ) → i < length s → n < getD s i 0 → allUpTo n (drop i s) ≡ false
+ended : (n : ℕ) (s : List ℕ) (i m : ℕ) → length s ≤ i → (leb m n && allUpTo n (drop i s)) ≡ leb m n
 unfolding allUpTo
-stopped n s i h e = rw (drop-cons s i 0 h, lt-leb _ _ e)
-
-ended : (n : ℕ) (s : List ℕ) (i : ℕ) → length s ≤ i → allUpTo n (drop i s) ≡ true
-unfolding allUpTo
-ended n s i h = rw (drop-of-length-le s h)
+ended n s i m h = rw (drop-of-length-le s h) (go (leb m n))
+  where
+    go : (t : Bool) → (t && true) ≡ t
+    go true = refl
+    go false = refl
 
 abbrev Inv-loop : tie.InvT-loop
-Inv-loop n s i₀ i = (allUpTo n s ≡ allUpTo n (drop i s)) × (i ≤ length s)
+Inv-loop n s most₀ i₀ most i = (allUpTo n s ≡ (leb most n && allUpTo n (drop i s))) × (i ≤ length s)
 
 abbrev μ-loop : tie.MeasureT-loop
-μ-loop n s i₀ i = length s - i
+μ-loop n s most₀ i₀ most i = length s - i
 
 loop-holds : tie.Need-loop-holds Inv-loop μ-loop
-loop-holds c = (refl, omega arith)
+loop-holds c = (rw (le-leb 0 (c .args .n) (omega arith)), omega arith)
 
 shared-slice-read-if1 : tie.Need-shared-slice-read-if1 Inv-loop μ-loop
 shared-slice-read-if1 c = omega arith
 
-returns : tie.Need-returns Inv-loop μ-loop
-returns c =
-    let a = c .before .before .before .before .args in
-    let l = c .before .before .before .loop in
-    sym (l .inv .0 ∙ stopped (a .n) (a .s .now) (l .i) (omega arith) (c .if1 .taken))
+shared-slice-read-most : tie.Need-shared-slice-read-most Inv-loop μ-loop
+shared-slice-read-most c = omega arith
 
 add-i : tie.Need-add-i Inv-loop μ-loop
 add-i c = omega arith
@@ -52,13 +65,17 @@ loop-again : tie.Need-loop-again Inv-loop μ-loop
 loop-again c =
     let a = c .before .before .before .before .args in
     let l = c .before .before .before .loop in
-    (l .inv .0 ∙ turned (a .n) (a .s .now) (l .i) (omega arith) (c .if1 .left), omega arith)
+    let more = turned (a .n) (a .s .now) (l .i) (l .most) (c .if1 .most) (omega arith) in
+    ⊎-elim (λ w. (l .inv .0 ∙ more (omega arith) (omega arith) (inr (omega arith)), omega arith))
+    (λ w. (l .inv .0 ∙ more (omega arith) (omega arith) (inl (omega arith)), omega arith)) (c .if1 .came)
 
-returns-2 : tie.Need-returns-2 Inv-loop μ-loop
-returns-2 c =
+returns : tie.Need-returns Inv-loop μ-loop
+returns c =
     let a = c .before .before .args in
     let l = c .before .loop in
-    sym (l .inv .0 ∙ ended (a .n) (a .s .now) (l .i) (c .loop-test .left))
+    sym (l .inv .0 ∙ ended (a .n) (a .s .now) (l .i) (l .most) (c .loop-test .left))
 
 pub up-to-spec : {M : Type 1} → statement M
-up-to-spec = tie.close (tie.spec Inv-loop μ-loop loop-holds shared-slice-read-if1 returns add-i loop-less loop-again returns-2)
+up-to-spec =
+    tie.close
+    (tie.spec Inv-loop μ-loop loop-holds shared-slice-read-if1 shared-slice-read-most add-i loop-less loop-again returns)

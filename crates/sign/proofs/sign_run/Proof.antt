@@ -1,4 +1,4 @@
-use Rattle.sign.proofs.Hosted.{run-short, run-unread, run-stopped, run-written}
+use Rattle.sign.proofs.Hosted.{run-short, run-damaged, run-stopped, run-written}
 use borrow.Author.Needs.{needs}
 use Rattle.sign.proofs.sign_run.Statement.{statement}
 use Rattle.sign.proofs.sign_run.Tie as tie
@@ -6,8 +6,8 @@ use Rattle.sign.proofs.sign_run.Tie as tie
 returns : tie.Need-returns
 returns c = run-short _ _ _ (c .if1 .taken)
 
-read-requires : tie.Need-read-requires
-read-requires c κs = search needs
+opened-requires : tie.Need-opened-requires
+opened-requires c κs = search needs
 
 wide-requires : tie.Need-wide-requires
 wide-requires c κs = search needs
@@ -16,7 +16,9 @@ same-length : tie.Need-same-length
 same-length c = search needs
 
 returns-2 : tie.Need-returns-2
-returns-2 c = rw (c .wide .ensures) (run-unread _ _ _ _ (c .before .before .before .before .before .if1 .left) (c .before .before .before .read .ensures) (c .before .if2 .taken))
+returns-2 c =
+    let g = c .before .before .before in
+    rw (c .wide .ensures) (run-damaged _ _ _ (g .before .before .if1 .left) _ (g .opened .ensures .0) (c .before .if2 .taken))
 
 tally-at-requires : tie.Need-tally-at-requires
 tally-at-requires c κs = search needs
@@ -35,26 +37,24 @@ same-length-3 c = search needs
 
 returns-3 : tie.Need-returns-3
 returns-3 c =
+    let r = c .before .before .before in
+    let k = r .before .before .before .before in
+    let g = k .before .before in
     rw (c .wide2 .ensures)
-    (run-stopped _ _ _ _ _ _ (c .before .before .before .before .before .before .before .before .before .before .before .if1 .left) (c .before .before .before .before .before .before .before .before .before .read .ensures) (c .before .before .before .before .before .before .before .if2 .left) (c .before .before .before .before .before .tally-at .ensures) (c .before .before .before .run .ensures) (c .before .if3 .taken))
+    (run-stopped _ _ _ (g .before .before .if1 .left) _ (g .opened .ensures .0) _ _ _ (k .if2 .left) (g .opened .ensures .1)
+    (r .before .before .tally-at .ensures) (r .run .ensures) (c .before .if3 .taken))
 
-sealed-requires : tie.Need-sealed-requires
-sealed-requires c κs = search needs
+put-requires : tie.Need-put-requires
+put-requires c κs = search needs
+
+tally-bytes-requires : tie.Need-tally-bytes-requires
+tally-bytes-requires c κs = search needs
 
 slice-aggregate-copy : tie.Need-slice-aggregate-copy
 slice-aggregate-copy c = search needs
 
 copy-requires : tie.Need-copy-requires
 copy-requires c κs = search needs
-
-tally-bytes-requires : tie.Need-tally-bytes-requires
-tally-bytes-requires c κs = search needs
-
-slice-aggregate-copy-2 : tie.Need-slice-aggregate-copy-2
-slice-aggregate-copy-2 c = search needs
-
-copy-requires-2 : tie.Need-copy-requires-2
-copy-requires-2 c κs = search needs
 
 same-length-4 : tie.Need-same-length-4
 same-length-4 c = search needs
@@ -64,15 +64,20 @@ same-length-5 c = search needs
 
 returns-4 : tie.Need-returns-4
 returns-4 c =
-    run-written _ _ _ _ _ _ (c .before .before .before .before .before .before .before .before .before .before .before .before .before .before .before .before .before .before .before .before .before .before .before .before .if1 .left) (c .before .before .before .before .before .before .before .before .before .before .before .before .before .before .before .before .before .before .before .before .before .before .read .ensures) (c .before .before .before .before .before .before .before .before .before .before .before .before .before .before .before .before .before .before .before .before .if2 .left) (c .before .before .before .before .before .before .before .before .before .before .before .before .before .before .before .before .before .before .tally-at .ensures) (c .before .before .before .before .before .before .before .before .before .before .before .before .before .before .before .before .run .ensures)
-    _ _ _ _ (c .before .before .before .before .before .before .before .before .before .before .before .before .before .before .if3 .left) (c .before .before .before .before .before .before .before .before .before .before .before .before .sealed .ensures) (c .before .before .before .before .before .before .before .before .before .copy .ensures) (c .before .before .before .before .before .tally-bytes .ensures) (c .before .before .copy2 .ensures)
+    let w = c .before .before .before .before .before .before .before .before .before in
+    let r = w .before .before .before .before .before in
+    let k = r .before .before .before .before in
+    let g = k .before .before in
+    run-written _ _ _ (g .before .before .if1 .left) _ (g .opened .ensures .0) _ _ _ (k .if2 .left) (g .opened .ensures .1)
+    (r .before .before .tally-at .ensures) (r .run .ensures) _ _ _ (w .before .before .before .if3 .left) (w .put .ensures)
+    (c .before .before .before .before .before .tally-bytes .ensures) (c .before .before .copy .ensures)
 
 pub sign-run-spec : {M : Type 1} → statement M
 sign-run-spec =
     tie.close
     (tie.spec
     returns
-    read-requires
+    opened-requires
     wide-requires
     same-length
     returns-2
@@ -82,12 +87,10 @@ sign-run-spec =
     same-length-2
     same-length-3
     returns-3
-    sealed-requires
+    put-requires
+    tally-bytes-requires
     slice-aggregate-copy
     copy-requires
-    tally-bytes-requires
-    slice-aggregate-copy-2
-    copy-requires-2
     same-length-4
     same-length-5
     returns-4)

@@ -1,18 +1,18 @@
-use borrow.Author.Needs.{needs}
 use Rattle.sign.specs.Questions.{hostLit}
-use Rattle.sign.proofs.Asked.{asked-unread, lit-read}
+use Rattle.sign.proofs.Asked.{asked-damaged, lit-read}
+use borrow.Author.Needs.{needs}
 use Rattle.sign.proofs.questions.sign_lit.Statement.{statement}
 use Rattle.sign.proofs.questions.sign_lit.Tie as tie
 
-read-requires : tie.Need-read-requires
-read-requires c κs = search needs
+opened-requires : tie.Need-opened-requires
+opened-requires c κs = search needs
 
 asked-requires : tie.Need-asked-requires
 asked-requires c κs = search needs
 
 returns : tie.Need-returns
 unfolding hostLit
-returns c = rw (c .asked .ensures) (asked-unread _ _ (c .before .before .before .read .ensures) _ _ _ (c .before .if1 .taken))
+returns c = rw (c .asked .ensures) (asked-damaged _ _ (c .before .before .before .opened .ensures .0) _ _ _ (c .before .if1 .taken))
 
 lit-requires : tie.Need-lit-requires
 lit-requires c κs = search needs
@@ -22,10 +22,12 @@ asked-requires-2 c κs = search needs
 
 returns-2 : tie.Need-returns-2
 returns-2 c =
-    let read = c .before .before .before .before .before .read .ensures in
-    rw (c .asked2 .ensures) (lit-read _ _ read _ _ (c .before .before .before .if1 .left) (c .before .lit .ensures))
+    let k = c .before .before .before in
+    let g = k .before .before in
+    rw (c .asked2 .ensures)
+    (lit-read _ _ (g .opened .ensures .0) _ (k .if1 .left) (g .opened .ensures .1) _ _ (c .before .lit .ensures))
 
 pub sign-lit-spec : {M : Type 1} → statement M
 sign-lit-spec =
     tie.close
-    (tie.spec read-requires asked-requires returns lit-requires asked-requires-2 returns-2)
+    (tie.spec opened-requires asked-requires returns lit-requires asked-requires-2 returns-2)
