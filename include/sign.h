@@ -43,14 +43,14 @@ extern "C" {
 /* Stack that a call needs on x86-64, in bytes, from its return address down, with all that it calls
    (the C library's memcpy and memset by their return address alone). The test `stack` compares
    these lines with the compiled code.
-     sign_power_up   501
-     sign_run        1,284
-     sign_plan       2,340
-     sign_plan_fonts 2,372
-     sign_view       772
-     sign_dot        676
-     sign_underline  660
-     sign_lit        660
+     sign_power_up   664
+     sign_run        1,304
+     sign_plan       2,248
+     sign_plan_fonts 2,280
+     sign_view       656
+     sign_dot        560
+     sign_underline  544
+     sign_lit        544
    The code also uses the red zone, the 128 bytes below the stack pointer that the x86-64 ABI leaves
    to a function. A signal handler on the same stack needs its own frame and those 128 bytes
    besides. In a kernel or on bare metal the processor itself would write an interrupt's frame into

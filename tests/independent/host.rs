@@ -275,11 +275,15 @@ fn damaged_blocks(h: &mut Host) {
 /// Every set of things that are wrong at once: the lowest number is given.
 fn order_of_refusals(h: &mut Host) {
     let long = vec![0x41; LONGEST_RUN + 1];
-    for set in 0..1u32 << 9 {
+    for set in 0..1u32 << 10 {
         let wrong = |i: u32| set >> i & 1 == 1;
         let mut block = Condition::power_up(0).to_block().to_vec();
         if wrong(0) {
             block[4] = 9; // mode: not well formed
+            seal(&mut block);
+        }
+        if wrong(9) {
+            block[300] = 1; // unused: no condition is written so
             seal(&mut block);
         }
         if wrong(1) {
@@ -307,7 +311,7 @@ fn order_of_refusals(h: &mut Host) {
         }
         h.run(&block, &t, if wrong(8) { &long } else { &[0x41, 0x42] });
     }
-    for set in 0..1u32 << 15 {
+    for set in 0..1u32 << 16 {
         let wrong = |i: u32| set >> i & 1 == 1;
         let mut c = Condition::power_up(0);
         let mut codes = vec![0x41; CELLS];
@@ -336,6 +340,10 @@ fn order_of_refusals(h: &mut Host) {
         let mut block = c.to_block().to_vec();
         if wrong(4) {
             block[300] = 1;
+            seal(&mut block);
+        }
+        if wrong(15) {
+            block[7] = 2; // selected font: not well formed
             seal(&mut block);
         }
         if wrong(5) {

@@ -13,12 +13,11 @@ use Rattle.condition.specs.Condition.{wellFormed}
 use Rattle.block.specs.declared.Written.{Written}
 use Rattle.layout.specs.Layout.{unpackedOf}
 use Rattle.block.specs.Block.{blockOf}
-use Rattle.block.specs.Reading.{readRefusal, refusedOf, readAnswer, ReadPromise}
+use Rattle.block.specs.Reading.{readRefusal, damageOf, refusedOf, readAnswer, ReadPromise}
 use Rattle.block.specs.Writing.{writeRefusal, writeAnswer, writeOut, WritePromise}
-use Rattle.block.specs.Tidy.{damageOf}
 use Rattle.condition.proofs.Good.{Sized}
 use Rattle.block.proofs.Sealing.{length-block}
-use Rattle.block.proofs.Damaged.{damaged, Undamaged, undamaged}
+use Rattle.block.proofs.Damaged.{read-by, whole-unpacked}
 use Rattle.block.proofs.RoundTrip.{reread, rewritten, read-formed}
 
 -- A reading ----------------------------------------------------------------------------------------------------------------
@@ -37,23 +36,19 @@ unfolding readAnswer
 unread b r n e f h = promised b r (e ∙ sym (rw (f, ne-eqb n 0 h)))
 
 pub damaged-read : (b : List ℕ) (r : Outcome) (n : ℕ) → n ≡ damageOf b → (n ≡ 0 → ⊥) → r ≡ refusedOf n → ReadPromise b r
-damaged-read b r n e h er = unread b r n er (damaged b (λ z. h (e ∙ z)) ∙ sym e) h
+damaged-read b r n d h e = unread b r n e (read-by b ∙ rw (← d, ne-eqb n 0 h)) h
 
 -- a block that is not damaged, with w what is said of the condition that stands in it
 module _ (b : List ℕ) (n : ℕ) (w : Bool) (d : n ≡ damageOf b) (z : n ≡ 0) (ew : w ≡ wellFormed (unpackedOf b)) where
-  whole : Undamaged b
-  whole = undamaged b (sym d ∙ z)
-
   told : readRefusal b ≡ cond w 0 3
-  told =
-      whole .refusal ∙ ap (λ (c : Condition). cond (wellFormed c) 0 3) (sym (whole .held)) ∙ ap (λ (t : Bool). cond t 0 3) (sym ew)
+  told = read-by b ∙ rw (← d, z, ew, whole-unpacked b (sym d ∙ z))
 
   pub unformed : w ≡ false → (r : Outcome) → r ≡ refusedOf 3 → ReadPromise b r
-  unformed f r e = unread b r 3 e (told ∙ ap (λ (t : Bool). cond t 0 3) f) (λ z. omega arith)
+  unformed f r e = unread b r 3 e (told ∙ rw f) (λ z. omega arith)
 
   pub taken : w ≡ true → (c : Condition) → c ≡ unpackedOf b → ReadPromise b (record { refusal = 0; condition = c })
   unfolding readAnswer
-  taken f c e = promised b (record { refusal = 0; condition = c }) (rw (told ∙ ap (λ (t : Bool). cond t 0 3) f, e ∙ whole .held))
+  taken f c e = promised b (record { refusal = 0; condition = c }) (rw (told, f, e ∙ whole-unpacked b (sym d ∙ z)))
 
 -- A writing ----------------------------------------------------------------------------------------------------------------
 

@@ -48,7 +48,7 @@ reread c z w = rw (eq-eqb _ _ (length-block c z), intact-back c z, condition-bac
 -- What is accepted is written back the same --------------------------------------------------------------------------------
 
 -- an accepted block
-pub record Accepted (b : List ℕ) : Type 0 where
+record Accepted (b : List ℕ) : Type 0 where
   pub long : length b ≡ 512
   pub whole : intact b ≡ true
   pub formed : wellFormed (conditionIn b) ≡ true
@@ -59,7 +59,7 @@ answered : (b : List ℕ) → readRefusal b ≡ 0 → readAnswer b ≡ record { 
 unfolding readAnswer
 answered b e = rw (eq-eqb _ _ e)
 
-pub accepted : (b : List ℕ) → readRefusal b ≡ 0 → Accepted b
+accepted : (b : List ℕ) → readRefusal b ≡ 0 → Accepted b
 unfolding readRefusal sound
 accepted b e = go (eqb (length b) 512) refl (intact b) refl (wellFormed (conditionIn b)) refl (sameBytes (blockOf (conditionIn b)) b) refl e
   where
@@ -86,9 +86,6 @@ pub rewritten : (b : List ℕ) → readAnswer b .refusal ≡ 0 → blockOf (read
 rewritten b e =
     let a = accepted b (sym (refusal-of b) ∙ e) in
     ap (λ (r : Outcome). blockOf (r .condition)) (a .answer) ∙ a .same
-
-pub read-length : (b : List ℕ) → readAnswer b .refusal ≡ 0 → length b ≡ 512
-read-length b e = accepted b (sym (refusal-of b) ∙ e) .long
 
 -- power-up for font 0 is well formed, so every reading is
 pub read-formed : (b : List ℕ) → wellFormed (readAnswer b .condition) ≡ true

@@ -6,7 +6,7 @@ use mathlib.Core.List.{List, [], _∷_, _++_, append-assoc}
 use native.Mathlib.Omega.{arith}
 use native.Mathlib.Nat.{add-zero}
 use lib.Dec.{eqb, ltb, leb}
-use lib.ListN.{length, getD, take, drop, replicate, take-append-drop}
+use lib.ListN.{length, getD, take, drop, replicate, take-append-drop, drop-of-length-le}
 use lib.Seq.{drop-drop, drop-cons, take-at, drop-at, getD-take, getD-drop}
 use borrow.Author.Tests.{eqb-true, eq-eqb, leb-true, ltb-true}
 use Rattle.condition.specs.declared.Condition.{Condition}
@@ -20,7 +20,7 @@ use Rattle.block.specs.Reading.{sameBytes, intact}
 use Rattle.block.specs.Tidy.{kindGood, restZero, tidy}
 use Rattle.condition.proofs.Good.{Sized}
 use Rattle.layout.proofs.PackedBack.{length-packed, sized-in}
-use Rattle.block.proofs.Sealing.{unused, last-two, length-body, check-body}
+use Rattle.block.proofs.Sealing.{unused, two-bytes, length-body, check-body}
 
 pub same-eq : (x y : List ℕ) → sameBytes x y ≡ true → x ≡ y
 unfolding sameBytes
@@ -227,9 +227,11 @@ body-back b h m t =
     flat ∙ ap (λ (l : List ℕ). l ++ r₁) (head-back b h m t) ∙ sym (opened 24 0 b (omega arith) ∙ ap (λ (l : List ℕ). gets 24 0 b ++ l) e₁)
 
 end-back : (b : List ℕ) → length b ≡ 512 → Intact b → drop 510 b ≡ checkOf b % 256 ∷ checkOf b / 256 ∷ []
-end-back b h m = last-two b h ∙ rw (m .low, m .high)
+end-back b h m =
+    let le : length b ≤ 512 = omega arith in
+    two-bytes b (omega arith) ∙ rw (m .low, m .high, drop-of-length-le b le)
 
-pub tidy-back : (b : List ℕ) → length b ≡ 512 → intact b ≡ true → tidy b ≡ true → blockOf (conditionIn b) ≡ b
+tidy-back : (b : List ℕ) → length b ≡ 512 → intact b ≡ true → tidy b ≡ true → blockOf (conditionIn b) ≡ b
 unfolding blockOf sealOf
 tidy-back b h i t =
     let m = intact-parts b i in

@@ -35,6 +35,14 @@ readRefusal b =
     (cond (not (intact b)) 2
     (cond (not (sound b)) 3 0))
 
+-- What a block is refused for whatever condition stands in it. 1 and 2: as above. 3: it is not the block of that condition, so a
+-- flag is above 1, a kind above 6, or an unused place is not 0
+unfoldable pub damageOf : List ℕ → ℕ
+damageOf b =
+    cond (not (eqb (length b) 512)) 1
+    (cond (not (intact b)) 2
+    (cond (not (sameBytes (blockOf (conditionIn b)) b)) 3 0))
+
 -- a refused reading returns power-up for font 0
 abbrev pub refusedOf : ℕ → Outcome
 refusedOf n = record { refusal = n; condition = powerUp 0 }

@@ -2,11 +2,10 @@
 -- exactly when it is the block of the condition that stands in it.
 use Prim.Native.Nat.{ℕ}
 use mathlib.Core.List.{List}
-use mathlib.Core.Bool.{Bool, true, cond, not, _&&_}
-use lib.ListN.{length, getD, take, drop}
+use mathlib.Core.Bool.{Bool, true, cond, _&&_}
+use lib.ListN.{getD, take, drop}
 use lib.Dec.{eqb, ltb, leb}
 use Rattle.condition.specs.Condition.{allUpTo}
-use Rattle.block.specs.Reading.{intact}
 
 -- a kind 0 to 6; its code and its bytes held are unused where it is not 6
 unfoldable pub kindGood : ℕ → ℕ → ℕ → Bool
@@ -21,8 +20,3 @@ unfoldable pub tidy : List ℕ → Bool
 tidy b =
     leb (getD b 5 0) 1 && leb (getD b 6 0) 1 && leb (getD b 9 0) 1 && leb (getD b 12 0) 1
     && kindGood (getD b 13 0) (getD b 14 0) (getD b 15 0) && allUpTo 0 (take 3 (drop 21 b)) && restZero b
-
--- what a block is refused for whatever condition stands in it. 1: not 512 bytes. 2: bytes 0-2 or the check differ. 3: a byte that
--- no condition is written with
-unfoldable pub damageOf : List ℕ → ℕ
-damageOf b = cond (not (eqb (length b) 512)) 1 (cond (not (intact b)) 2 (cond (not (tidy b)) 3 0))

@@ -2,12 +2,11 @@
 ghost use mathlib.Core.Path.{_≡_};
 ghost use Prim.Native.Nat.{_≤_};
 ghost use mathlib.Core.Bool.{cond};
-ghost use mathlib.Core.List.{_++_};
-ghost use lib.ListN.{length, take, replicate};
-ghost use Rattle.block.specs.Block.{weigh, checkOf, sealOf, blockOf, putOver};
-ghost use Rattle.block.specs.Reading.{intact, refusedOf, ReadPromise};
+ghost use lib.ListN.{length};
+ghost use Rattle.block.specs.Block.{weigh, checkOf, blockOf, putOver};
+ghost use Rattle.block.specs.Reading.{intact, damageOf, refusedOf, ReadPromise};
 ghost use Rattle.block.specs.Writing.{WritePromise};
-ghost use Rattle.block.specs.Tidy.{kindGood, restZero, tidy, damageOf};
+ghost use Rattle.block.specs.Tidy.{kindGood, restZero, tidy};
 use condition::Condition;
 use condition::Outcome;
 
@@ -48,19 +47,19 @@ fn is_rest_zero(block: &[u8]) -> bool
     condition::up_to(0, &block[layout::PACKED..CHECK])
 }
 
-// How many bytes the check weighs: zeros weigh nothing.
-fn weighty(zero: bool) -> usize
-    ensures { λ r. ⌜ (r ≡ cond zero 200 510) × (r ≤ 510) ⌝ }
+// How many bytes the check weighs: zeros behind the first 200 weigh nothing.
+fn weighty(zeros: bool) -> usize
+    ensures { λ r. ⌜ (r ≡ cond zeros 200 510) × (r ≤ 510) ⌝ }
 {
-    if zero { layout::PACKED } else { CHECK }
+    if zeros { layout::PACKED } else { CHECK }
 }
 
 // The check, where it is known whether the unused bytes 200 to 509 are 0.
-fn check_by(block: &[u8], zero: bool) -> u32
-    requires { ⌜ (510 ≤ length (now block)) × (zero ≡ restZero (now block)) ⌝ }
+fn check_by(block: &[u8], zeros: bool) -> u32
+    requires { ⌜ (510 ≤ length (now block)) × (zeros ≡ restZero (now block)) ⌝ }
     ensures { λ r. ⌜ r ≡ checkOf (now (block .entry)) ⌝ }
 {
-    let n = weighty(zero);
+    let n = weighty(zeros);
     weighed(&block[..n]) % MODULUS
 }
 
@@ -71,22 +70,12 @@ pub fn check(block: &[u8]) -> u32
     if block.len() < CHECK {
         return weighed(block) % MODULUS;
     }
-    let zero = is_rest_zero(block);
-    check_by(block, zero)
+    let zeros = is_rest_zero(block);
+    check_by(block, zeros)
 }
 
-// 512 bytes become a block of what is packed in their first 200: the unused bytes behind these are 0, and the check is put.
-fn seal(block: &mut [u8])
-    requires { ⌜ length (now block) ≡ 512 ⌝ }
-    ensures { λ _. ⌜ now (block .exit) ≡ sealOf (take 200 (now (block .entry)) ++ replicate 310 0) ⌝ }
-{
-    row::clear(&mut block[layout::PACKED..CHECK], 0);
-    let sum = weighed(&block[..layout::PACKED]) % MODULUS;
-    block[CHECK] = (sum % 256) as u8;
-    block[CHECK + 1] = (sum / 256) as u8;
-}
-
-// The block of a condition, well formed or not, is put at the start of a buffer. One that is too short stays as it is.
+// The block of a condition, well formed or not, is put at the start of a buffer. One that is too short stays as it is. All is
+// worked out before the buffer is touched.
 pub fn put(c: Condition, out: &mut [u8])
     ensures { λ _. ⌜ now (out .exit) ≡ putOver c (now (out .entry)) ⌝ }
 {
@@ -95,8 +84,11 @@ pub fn put(c: Condition, out: &mut [u8])
         return;
     }
     let first = layout::packed(c);
+    let sum = weighed(&first) % MODULUS;
     row::copy(out, &first);
-    seal(&mut out[..LENGTH]);
+    row::clear(&mut out[layout::PACKED..CHECK], 0);
+    out[CHECK] = (sum % 256) as u8;
+    out[CHECK + 1] = (sum / 256) as u8;
 }
 
 // The block of a condition, well formed or not.
@@ -153,8 +145,8 @@ fn kind_good(kind: u8, code: u8, holds: u8) -> bool
 }
 
 // Flags are 0 or 1, the kind is 0 to 6, and what is unused is 0; of bytes 200 to 509 it is known.
-fn is_tidy(block: &[u8], zero: bool) -> bool
-    requires { ⌜ (length (now block) ≡ 512) × (zero ≡ restZero (now block)) ⌝ }
+fn is_tidy(block: &[u8], zeros: bool) -> bool
+    requires { ⌜ (length (now block) ≡ 512) × (zeros ≡ restZero (now block)) ⌝ }
     ensures { λ r. ⌜ r ≡ tidy (now (block .entry)) ⌝ }
 {
     (block[layout::SCROLLING] <= 1)
@@ -167,20 +159,20 @@ fn is_tidy(block: &[u8], zero: bool) -> bool
             block[layout::HOLDS],
         )
         & condition::up_to(0, &block[layout::UNUSED..layout::CODES])
-        & zero
+        & zeros
 }
 
-// Why a block is refused whatever condition stands in it: 1 or 2, or 3 for a byte that no condition is written with; else 0.
+// Why a block is refused whatever condition stands in it: 1 or 2, or 3 where it is not the block of that condition; else 0.
 pub fn damage(block: &[u8]) -> u8
     ensures { λ r. ⌜ r ≡ damageOf (now (block .entry)) ⌝ }
 {
     if block.len() != LENGTH {
         return 1;
     }
-    let zero = is_rest_zero(block);
-    let sum = check_by(block, zero);
+    let zeros = is_rest_zero(block);
+    let sum = check_by(block, zeros);
     let intact = is_intact(block, sum);
-    let tidy = is_tidy(block, zero);
+    let tidy = is_tidy(block, zeros);
     if !intact {
         return 2;
     }

@@ -5,7 +5,7 @@ use mathlib.Core.List.{List, [], _∷_, _++_}
 use Prim.Native.Nat.{ℕ, zero, suc, _≤_}
 use native.Mathlib.Omega.{arith}
 use lib.Dec.{leb}
-use lib.ListN.{getD, set, take, drop, replicate}
+use lib.ListN.{length, getD, set, take, drop, replicate}
 use borrow.Author.Tests.{leb-true, le-leb}
 use Rattle.condition.specs.Condition.{allUpTo}
 use Rattle.condition.proofs.Places.{both}
@@ -21,6 +21,15 @@ pub at-up-to : (n : ℕ) (l : List ℕ) → ((i : ℕ) → getD l i 0 ≤ n) →
 unfolding allUpTo
 at-up-to n [] h = refl
 at-up-to n (x ∷ l) h = rw (le-leb x n (h 0)) (at-up-to n l (λ i. h (suc i)))
+
+-- at most 0 is 0
+pub all-zero : (l : List ℕ) → allUpTo 0 l ≡ true → l ≡ replicate (length l) 0
+unfolding allUpTo
+all-zero [] e = refl
+all-zero (x ∷ xs) e =
+    let h = both (leb x 0) (allUpTo 0 xs) e in
+    let z : x ≡ 0 = omega (arith, leb-true x 0 (h .0)) in
+    rw (z, ← all-zero xs (h .1))
 
 pub up-to-set : (n : ℕ) (l : List ℕ) (i x : ℕ) → allUpTo n l ≡ true → x ≤ n → allUpTo n (set l i x) ≡ true
 unfolding allUpTo

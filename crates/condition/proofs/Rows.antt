@@ -1,5 +1,4 @@
 -- The rows with the numbers are the whole.
-use Prim.Native.Nat.{ℕ}
 use mathlib.Core.Path.{_≡_, refl}
 use mathlib.Core.Bool.{Bool, true, false, _&&_, _||_}
 use lib.Dec.{ltb, leb}
@@ -8,7 +7,7 @@ use borrow.Author.Tests.{eq-eqb}
 use Rattle.condition.specs.declared.Condition.{Condition}
 use Rattle.condition.specs.Condition.{idle, allUpTo, absent, usersGood, pendingGood, numbersGood, scrollGood, escapeGood}
 use Rattle.condition.specs.Condition.{wellFormed}
-use Rattle.condition.specs.Rows.{rowsFormed}
+use Rattle.condition.specs.Rows.{rowsGood}
 
 -- the count (k) is looked at with the numbers (m) and with the rows
 grouped : (m k s f u p e : Bool) → (m && k && s && (k && (f && u && p && e))) ≡ (m && k && s && f && u && p && e)
@@ -20,13 +19,13 @@ grouped true true true true false p e = refl
 grouped true true true true true false e = refl
 grouped true true true true true true e = refl
 
-pub rows-law : (c : Condition) → length (c .users .bytes) ≡ 96 → length (c .held) ≡ 4
-    → (numbersGood c && scrollGood c && rowsFormed (c .fonts) (c .users .count) (c .users .bytes) (c .pending) (c .held))
+pub rows-law : (c : Condition) → length (c .fonts) ≡ 40 → length (c .users .bytes) ≡ 96 → length (c .held) ≡ 4
+    → (numbersGood c && scrollGood c && rowsGood (c .fonts) (c .users .count) (c .users .bytes) (c .pending) (c .held))
     ≡ wellFormed c
-unfolding wellFormed numbersGood escapeGood rowsFormed
-rows-law c l h =
+unfolding wellFormed numbersGood escapeGood rowsGood
+rows-law c f u h =
     let m =
     ltb (c .cursor) 40 && leb 1 (c .mode) && leb (c .mode) 3 && leb (c .font) 1 && leb (c .link) 1 && leb (c .luminance) 3 in
-    rw (eq-eqb _ _ l, eq-eqb _ _ h)
+    rw (eq-eqb _ _ f, eq-eqb _ _ u, eq-eqb _ _ h)
     (grouped m (leb (c .users .count) 16) (scrollGood c) (allUpTo 1 (c .fonts)) (usersGood (c .users .count) (c .users .bytes))
     (pendingGood (c .pending) (c .held)) (idle (c .pending) || absent 0x1B (c .users .count) (c .users .bytes)))

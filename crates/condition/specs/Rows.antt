@@ -10,7 +10,7 @@ use Rattle.condition.specs.Condition.{idle, allUpTo, absent, usersGood, 
 
 -- fonts, a count and the bytes of user characters, what is half received and the bytes held: rows of other lengths, and a count
 -- above 16, never are well formed
-unfoldable pub rowsFormed : List ℕ → ℕ → List ℕ → Pending → List ℕ → Bool
-rowsFormed fonts n us p h =
-    eqb (length us) 96 && eqb (length h) 4 && leb n 16
+unfoldable pub rowsGood : List ℕ → ℕ → List ℕ → Pending → List ℕ → Bool
+rowsGood fonts n us p h =
+    eqb (length fonts) 40 && eqb (length us) 96 && eqb (length h) 4 && leb n 16
     && (allUpTo 1 fonts && usersGood n us && pendingGood p h && (idle p || absent 0x1B n us))

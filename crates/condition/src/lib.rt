@@ -3,7 +3,7 @@ ghost use mathlib.Core.Path.{_≡_};
 ghost use Prim.Native.Nat.{_*_, _≤_};
 ghost use lib.ListN.{length};
 ghost use Rattle.condition.specs.Condition.{idle, heldOf, allUpTo, absent, usersGood, pendingGood, numbersGood, scrollGood, wellFormed, powerUp, powerUpAnswer};
-ghost use Rattle.condition.specs.Rows.{rowsFormed};
+ghost use Rattle.condition.specs.Rows.{rowsGood};
 use users::Users;
 
 // The half-received command. A user character's data has its code and the count of bytes held.
@@ -141,9 +141,12 @@ fn pending_good(p: Pending, h: &[u8]) -> bool
 
 // The rows of a condition are as they should be: the cells' fonts, the user characters, and what is held of one that is being
 // received. They may stand in a condition or in bytes; more than 16 user characters, or a row of another length, never are.
-pub fn rows_formed(fonts: &[u8], count: u8, users: &[u8], pending: Pending, held: &[u8]) -> bool
-    ensures { λ r. ⌜ r ≡ rowsFormed (now (fonts .entry)) count (now (users .entry)) pending (now (held .entry)) ⌝ }
+pub fn rows_good(fonts: &[u8], count: u8, users: &[u8], pending: Pending, held: &[u8]) -> bool
+    ensures { λ r. ⌜ r ≡ rowsGood (now (fonts .entry)) count (now (users .entry)) pending (now (held .entry)) ⌝ }
 {
+    if fonts.len() != Condition::CELLS {
+        return false;
+    }
     if users.len() != 96 {
         return false;
     }
@@ -248,6 +251,6 @@ impl Condition {
         let fonts = self.fonts;
         let p = self.pending;
         let held = self.held;
-        numbers_good(self) & scroll_good(self) & rows_formed(&fonts, u.count, &bytes, p, &held)
+        numbers_good(self) & scroll_good(self) & rows_good(&fonts, u.count, &bytes, p, &held)
     }
 }

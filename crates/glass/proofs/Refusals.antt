@@ -5,7 +5,6 @@ use mathlib.Core.Bool.{Bool, true, false, cond, _&&_}
 use lib.Dec.{leb}
 use Rattle.condition.specs.declared.Condition.{Condition}
 use Rattle.condition.specs.Condition.{wellFormed}
-use Rattle.glass.specs.declared.Answer.{Answer}
 use Rattle.glass.specs.Answers.{refused, lookupOf, viewAnswer, dotAnswer, underlineAnswer, litAnswer}
 
 module _ (c : Condition) (w : wellFormed c ≡ false) where

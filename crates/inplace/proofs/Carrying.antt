@@ -10,14 +10,12 @@ use borrow.Author.Tests.{eqb-true, eq-eqb, ne-eqb, lt-ltb, le-ltb, ltb-false}
 use Rattle.users.proofs.Places.{by-test}
 use Rattle.condition.specs.declared.Condition.{Condition}
 use Rattle.condition.specs.Condition.{wellFormed}
-use Rattle.condition.specs.Bytes.{runOf}
-use Rattle.condition.specs.Busy.{busyOf, flickerlessOf}
 use Rattle.condition.proofs.Good.{Sized}
 use Rattle.layout.specs.Layout.{packedOf, conditionIn}
 use Rattle.layout.proofs.PackedBack.{packed-back}
 use Rattle.inplace.specs.declared.After.{After}
 use Rattle.inplace.specs.InPlace.{Carried}
-use Rattle.inplace.specs.Carry.{carryRefusal, untouchedOf, afterOf}
+use Rattle.inplace.specs.Carry.{carryRefusal, untouchedOf, carriedOf, afterOf}
 
 -- a run on the packed condition
 pub carries : (c : Condition) (p after : List ℕ) (k : Condition) (bs : List ℕ) (busy flickerless : ℕ) → Sized c → p ≡ packedOf c
@@ -58,8 +56,7 @@ module _ (c : Condition) (bs : List ℕ) (r : After) where
   pub taken : r ≡ afterOf c bs → r .refusal ≡ 0 → Carried c bs (r .condition) (r .busy) (r .flickerless)
   unfolding afterOf
   taken e z =
-      let f : r ≡ record { refusal = 0; condition = runOf c bs; busy = busyOf c bs; flickerless = flickerlessOf c bs } =
-      e ∙ rw (eq-eqb (carryRefusal c bs) 0 (sym (refusal-is e) ∙ z)) in
+      let f : r ≡ carriedOf c bs = e ∙ rw (eq-eqb (carryRefusal c bs) 0 (sym (refusal-is e) ∙ z)) in
       record { leaves = ap (λ (a : After). a .condition) f; takes = ap (λ (a : After). a .busy) f; flickers = ap (λ (a : After). a .flickerless) f }
 
 -- what is carried out is well formed and not too long

@@ -10,7 +10,7 @@ use Rattle.condition.specs.declared.Condition.{Condition}
 use Rattle.condition.specs.Condition.{wellFormed}
 use Rattle.condition.specs.Bytes.{runOf}
 use Rattle.condition.specs.Busy.{busyOf, one, flickerlessOf}
-use Rattle.condition.proofs.Good.{good, Sized}
+use Rattle.condition.proofs.Good.{good}
 use Rattle.condition.proofs.Kept.{step-kept}
 use Rattle.condition.proofs.Pieces.{run-turn, busy-turn, flickerless-turn, run-ended, busy-ended, flickerless-ended, figure-most, one-most}
 use Rattle.layout.specs.Layout.{conditionIn}

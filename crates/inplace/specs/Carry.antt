@@ -18,8 +18,8 @@ carryRefusal c bs = cond (not (wellFormed c)) 3 (cond (ltb 32768 (length bs)) 4 
 abbrev pub untouchedOf : ℕ → Condition → After
 untouchedOf n c = record { refusal = n; condition = c; busy = 0; flickerless = 0 }
 
+abbrev pub carriedOf : Condition → List ℕ → After
+carriedOf c bs = record { refusal = 0; condition = runOf c bs; busy = busyOf c bs; flickerless = flickerlessOf c bs }
+
 unfoldable pub afterOf : Condition → List ℕ → After
-afterOf c bs =
-    cond (eqb (carryRefusal c bs) 0)
-    (record { refusal = 0; condition = runOf c bs; busy = busyOf c bs; flickerless = flickerlessOf c bs })
-    (untouchedOf (carryRefusal c bs) c)
+afterOf c bs = cond (eqb (carryRefusal c bs) 0) (carriedOf c bs) (untouchedOf (carryRefusal c bs) c)

@@ -13,7 +13,7 @@ mod half;
 mod turn;
 
 // The most bytes that are taken.
-pub const MOST_BYTES: usize = 32768;
+const MOST_BYTES: usize = 32768;
 
 // What carrying bytes out answers: a refusal number, 0 when accepted, the condition after them, their busy time, and how many
 // came while flickerless was on.

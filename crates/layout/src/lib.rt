@@ -253,7 +253,7 @@ fn formed_in(s: &[u8]) -> bool
 {
     let p = pending_in(s[KIND], s[CODE], s[HOLDS]);
     numbers_in(s)
-        & condition::rows_formed(
+        & condition::rows_good(
             &s[FONTS..USERS],
             s[COUNT],
             &s[USERS..PACKED],

@@ -5,51 +5,53 @@ use mathlib.Core.List.{List}
 use Prim.Native.Nat.{ℕ}
 use borrow.Author.Tests.{ne-eqb}
 use Rattle.condition.specs.declared.Condition.{Condition}
+use Rattle.condition.specs.declared.Outcome.{Outcome}
 use Rattle.condition.specs.Condition.{wellFormed}
 use Rattle.glass.specs.declared.Seen.{Seen}
 use Rattle.glass.specs.declared.Answer.{Answer}
 use Rattle.glass.specs.Answers.{viewAnswer, dotAnswer, underlineAnswer, litAnswer}
 use Rattle.glass.proofs.Refusals.{view-unformed, dot-unformed, underline-unformed, lit-unformed}
-use Rattle.layout.specs.Layout.{conditionIn, unpackedOf}
-use Rattle.block.specs.Tidy.{damageOf}
+use Rattle.layout.specs.Layout.{conditionIn}
+use Rattle.sign.specs.Host.{openedOf}
 use Rattle.sign.specs.Questions.{showsNumber, askedAs, hostAsked, hostTold, hostView, hostDot, hostUnderline, hostLit}
 use Rattle.sign.proofs.Hosted.{damaged-by, in-block, left-to}
 
-module _ (b : List ℕ) (m : ℕ) (d : m ≡ damageOf b) where
+module _ (b : List ℕ) (g : Outcome) (o : g ≡ openedOf b) where
   -- the block is damaged, whatever is asked
-  pub asked-damaged : (n v x : ℕ) → (m ≡ 0 → ⊥) → askedAs m x ≡ hostAsked b n v
+  pub asked-damaged : (n v x : ℕ) → (g .refusal ≡ 0 → ⊥) → askedAs (g .refusal) x ≡ hostAsked b n v
   unfolding hostAsked askedAs
-  asked-damaged n v x bad = rw (damaged-by b m d n bad) (simp (ne-eqb m 0 bad))
+  asked-damaged n v x bad = rw (damaged-by b g o n bad) (simp (ne-eqb (g .refusal) 0 bad))
 
   -- it is not, and the question is asked of the condition that stands there
-  module _ (c : Condition) (z : m ≡ 0) (ec : c ≡ unpackedOf b) where
+  module _ (z : g .refusal ≡ 0) where
     asked-read : {A : Type 0} (ask : Condition → A) (number value : A → ℕ)
         → (wellFormed (conditionIn b) ≡ false → number (ask (conditionIn b)) ≡ 3)
-        → (a : A) → a ≡ ask c
+        → (a : A) → a ≡ ask (g .condition)
         → askedAs (number a) (value a) ≡ hostAsked b (number (ask (conditionIn b))) (value (ask (conditionIn b)))
     unfolding hostAsked
-    asked-read ask number value u a e = rw (e ∙ ap ask (in-block b m d z c ec), left-to b m d z _ u)
+    asked-read ask number value u a e = rw (e ∙ ap ask (in-block b g o z), left-to b g o z _ u)
 
     told-read : (ask : Condition → Answer) → (wellFormed (conditionIn b) ≡ false → ask (conditionIn b) .refusal ≡ 3)
-        → (a : Answer) → a ≡ ask c → askedAs (a .refusal) (a .value) ≡ hostTold b (ask (conditionIn b))
+        → (a : Answer) → a ≡ ask (g .condition) → askedAs (a .refusal) (a .value) ≡ hostTold b (ask (conditionIn b))
     told-read ask = asked-read ask (λ (a : Answer). a .refusal) (λ (a : Answer). a .value)
 
-    pub view-read : (position : ℕ) (s : Seen) → s ≡ viewAnswer c position
+    pub view-read : (position : ℕ) (s : Seen) → s ≡ viewAnswer (g .condition) position
         → askedAs (s .refusal) (showsNumber (s .shows)) ≡ hostView b position
     unfolding hostView
     view-read position =
         asked-read (λ (c : Condition). viewAnswer c position) (λ (s : Seen). s .refusal) (λ (s : Seen). showsNumber (s .shows))
         (λ w. view-unformed (conditionIn b) w position)
 
-    pub dot-read : (code k : ℕ) (a : Answer) → a ≡ dotAnswer c code k → askedAs (a .refusal) (a .value) ≡ hostDot b code k
+    pub dot-read : (code k : ℕ) (a : Answer) → a ≡ dotAnswer (g .condition) code k
+        → askedAs (a .refusal) (a .value) ≡ hostDot b code k
     unfolding hostDot
     dot-read code k = told-read (λ (c : Condition). dotAnswer c code k) (λ w. dot-unformed (conditionIn b) w code k)
 
-    pub underline-read : (code : ℕ) (a : Answer) → a ≡ underlineAnswer c code
+    pub underline-read : (code : ℕ) (a : Answer) → a ≡ underlineAnswer (g .condition) code
         → askedAs (a .refusal) (a .value) ≡ hostUnderline b code
     unfolding hostUnderline
     underline-read code = told-read (λ (c : Condition). underlineAnswer c code) (λ w. underline-unformed (conditionIn b) w code)
 
-    pub lit-read : (code : ℕ) (a : Answer) → a ≡ litAnswer c code → askedAs (a .refusal) (a .value) ≡ hostLit b code
+    pub lit-read : (code : ℕ) (a : Answer) → a ≡ litAnswer (g .condition) code → askedAs (a .refusal) (a .value) ≡ hostLit b code
     unfolding hostLit
     lit-read code = told-read (λ (c : Condition). litAnswer c code) (λ w. lit-unformed (conditionIn b) w code)

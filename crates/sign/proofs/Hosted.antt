@@ -9,6 +9,7 @@ use lib.Dec.{eqb, leb}
 use lib.ListN.{length, take}
 use borrow.Author.Tests.{eqb-true, eqb-false, eq-eqb, ne-eqb, leb-true}
 use Rattle.moves.proofs.Lists.{bool}
+use Rattle.users.proofs.Places.{by-test}
 use Rattle.condition.specs.declared.Condition.{Condition}
 use Rattle.condition.specs.declared.Outcome.{Outcome}
 use Rattle.condition.specs.Condition.{wellFormed, powerUp, powerUpAnswer}
@@ -17,14 +18,13 @@ use Rattle.condition.proofs.Kept.{power-up-good}
 use Rattle.layout.specs.Layout.{conditionIn, unpackedOf}
 use Rattle.layout.proofs.PackedBack.{sized-in}
 use Rattle.block.specs.Block.{blockOf, putOver}
-use Rattle.block.specs.Reading.{readRefusal}
-use Rattle.block.specs.Tidy.{damageOf}
+use Rattle.block.specs.Reading.{readRefusal, damageOf}
 use Rattle.block.specs.Writing.{writeRefusal, writeAnswer, writeOut, WritePromise}
 use Rattle.block.specs.declared.Written.{Written}
 use Rattle.row.specs.Row.{laid}
 use Rattle.layout.proofs.Parts.{filled}
 use Rattle.block.proofs.Sealing.{put-whole}
-use Rattle.block.proofs.Damaged.{damaged, Undamaged, undamaged}
+use Rattle.block.proofs.Damaged.{read-by, whole-length, whole-unpacked}
 use Rattle.block.proofs.RoundTrip.{refusal-of, reread}
 use Rattle.interpreter.specs.declared.Tally.{Tally}
 use Rattle.interpreter.specs.declared.Ran.{Ran}
@@ -33,29 +33,49 @@ use Rattle.interpreter.specs.Run.{RunPromise, refusedOf, tallied, runRefusal, r
 use Rattle.interpreter.proofs.Answers.{run-unformed}
 use Rattle.planner.specs.declared.Planned.{Planned}
 use Rattle.planner.specs.Answer.{bytesBy, Promise, Plans, PlansFonts}
-use Rattle.sign.specs.Host.{tallyAt, tallyBytes, ranOf, hostRunRefusal, blockAfter, tallyAfter, HostRun, hostRefusalBy, hostAnswer, HostPromise, hostPowerUpRefusal, hostPowerUpOut, HostPowerUp}
+use Rattle.sign.specs.Host.{openedOf, tallyAt, tallyBytes, ranOf, hostRunRefusal, blockAfter, tallyAfter}
+use Rattle.sign.specs.Host.{HostRun, hostRefusalBy, hostAnswer, HostPromise, hostPowerUpRefusal, hostPowerUpOut, HostPowerUp}
 
--- ---- the block is looked at once: for damage, with the number m
+-- ---- the block is looked at once
 
-module _ (b : List ℕ) (m : ℕ) (d : m ≡ damageOf b) where
+pub opened-damaged : (b : List ℕ) (n : ℕ) (g : Outcome) → n ≡ damageOf b → (n ≡ 0 → ⊥) → g ≡ powerUpAnswer 0
+    → record { refusal = n; condition = g .condition } ≡ openedOf b
+unfolding openedOf powerUpAnswer
+opened-damaged b n g d h e = rw (← d, ne-eqb n 0 h, e)
+
+pub opened-whole : (b : List ℕ) (n : ℕ) (c : Condition) → n ≡ damageOf b → n ≡ 0 → c ≡ unpackedOf b
+    → record { refusal = 0; condition = c } ≡ openedOf b
+unfolding openedOf
+opened-whole b n c d z e = rw (← d, z, e ∙ whole-unpacked b (sym d ∙ z))
+
+-- opened, it is refused for its damage, or its condition is at hand
+opened-number : (b : List ℕ) (g : Outcome) → g ≡ openedOf b → g .refusal ≡ damageOf b
+unfolding openedOf
+opened-number b g e =
+    ap (λ (o : Outcome). o .refusal) e
+    ∙ by-test (λ (o : Outcome). o .refusal ≡ damageOf b) (eqb (damageOf b) 0) (λ t. sym (eqb-true (damageOf b) 0 t)) (λ _. refl)
+
+module _ (b : List ℕ) (g : Outcome) (o : g ≡ openedOf b) where
   -- a damaged block is refused so, whatever the call would answer
-  pub damaged-by : (n : ℕ) → (m ≡ 0 → ⊥) → hostRefusalBy true b n ≡ m
+  pub damaged-by : (n : ℕ) → (g .refusal ≡ 0 → ⊥) → hostRefusalBy true b n ≡ g .refusal
   unfolding hostRefusalBy
   damaged-by n h =
-      let e : readRefusal b ≡ m = damaged b (λ z. h (d ∙ z)) ∙ sym d in
-      rw (e, ne-eqb m 0 h)
+      let t = ne-eqb (g .refusal) 0 h in
+      let e : readRefusal b ≡ g .refusal = read-by b ∙ rw (← opened-number b g o, t) in
+      rw (e, t)
 
-  module _ (z : m ≡ 0) where
-    whole : Undamaged b
-    whole = undamaged b (sym d ∙ z)
+  module _ (z : g .refusal ≡ 0) where
+    whole : damageOf b ≡ 0
+    whole = sym (opened-number b g o) ∙ z
 
-    pub in-block : (c : Condition) → c ≡ unpackedOf b → c ≡ conditionIn b
-    in-block c e = e ∙ whole .held
+    pub in-block : g .condition ≡ conditionIn b
+    unfolding openedOf
+    in-block = ap (λ (o : Outcome). o .condition) o ∙ rw (eq-eqb (damageOf b) 0 whole)
 
     -- one that is not is refused as the call refuses, which gives 3 where the condition is not well formed: the order is the same
     pub left-to : (n : ℕ) → (wellFormed (conditionIn b) ≡ false → n ≡ 3) → hostRefusalBy true b n ≡ n
     unfolding hostRefusalBy
-    left-to n u = rw (whole .refusal) (go (wellFormed (conditionIn b)) refl)
+    left-to n u = rw (read-by b, whole) (go (wellFormed (conditionIn b)) refl)
       where
         go : (w : Bool) → wellFormed (conditionIn b) ≡ w → cond (not (eqb (cond w 0 3) 0)) (cond w 0 3) n ≡ n
         go true e = refl
@@ -90,20 +110,19 @@ module _ (b t bs : List ℕ) (h : length t ≡ 12) where
       let f : eqb (hostRunRefusal b t bs) 0 ≡ false = rw e (ne-eqb n 0 bad) in
       record { answer = sym e; block = rw f; tally = rw f; again = λ z. absurd (bad z) }
 
-  module _ (m : ℕ) (d : m ≡ damageOf b) where
-    pub run-damaged : (m ≡ 0 → ⊥) → HostRun b t bs m b t
-    run-damaged bad = run-refused m (by-block ∙ damaged-by b m d _ bad) bad
+  module _ (g : Outcome) (o : g ≡ openedOf b) where
+    pub run-damaged : (g .refusal ≡ 0 → ⊥) → HostRun b t bs (g .refusal) b t
+    run-damaged bad = run-refused (g .refusal) (by-block ∙ damaged-by b g o _ bad) bad
 
-    module _ (c : Condition) (x : Tally) (r : Ran) (z : m ≡ 0) (ec : c ≡ unpackedOf b) (ex : x ≡ tallyAt t)
-        (q : RunPromise c x bs r) where
+    module _ (x : Tally) (r : Ran) (z : g .refusal ≡ 0) (ex : x ≡ tallyAt t) (q : RunPromise (g .condition) x bs r) where
       told : r ≡ ranOf b t bs
       told =
-          q .answer ∙ ap (λ (c : Condition). runAnswer c x bs) (in-block b m d z c ec)
+          q .answer ∙ ap (λ (c : Condition). runAnswer c x bs) (in-block b g o z)
           ∙ ap (λ (y : Tally). runAnswer (conditionIn b) y bs) ex
 
       number : hostRunRefusal b t bs ≡ r .refusal
       number =
-          by-block ∙ left-to b m d z _ (run-unformed (conditionIn b) (tallyAt t) bs) ∙ ap (λ (y : Ran). y .refusal) (sym told)
+          by-block ∙ left-to b g o z _ (run-unformed (conditionIn b) (tallyAt t) bs) ∙ ap (λ (y : Ran). y .refusal) (sym told)
 
       pub run-stopped : (r .refusal ≡ 0 → ⊥) → HostRun b t bs (r .refusal) b t
       run-stopped = run-refused (r .refusal) number
@@ -128,7 +147,7 @@ module _ (b t bs : List ℕ) (h : length t ≡ 12) where
           → HostRun b t bs 0 b′ t′
       unfolding tallyBytes
       run-written b′ t′ n good eb en et =
-          let room : length b ≡ 512 = whole b m d z .long in
+          let room : length b ≡ 512 = whole-length b (whole b g o z) in
           let s : Sized (r .condition) = rw told (ran-sized (conditionIn b) (tallyAt t) bs (sized-in b (omega arith))) in
           let twelve : length n ≡ 12 = ap length en in
           run-done b′ t′ good s (eb ∙ put-whole (r .condition) b room) (et ∙ filled n t 12 twelve h ∙ en)
@@ -148,17 +167,17 @@ module _ (b : List ℕ) (n : ℕ) (bytes : List ℕ) (For : List ℕ → Type 0)
   unfolding hostRefusalBy
   plan-short e = refused-by _ 1 (rw e) (λ z. omega arith)
 
-  module _ (fit : long ≡ true) (m : ℕ) (d : m ≡ damageOf b) where
-    pub plan-damaged : (m ≡ 0 → ⊥) → HostPromise (hostRefusalBy long b n) bytes For out (256 + m) out
-    plan-damaged bad = refused-by _ m (rw fit (damaged-by b m d n bad)) bad
+  module _ (fit : long ≡ true) (g : Outcome) (o : g ≡ openedOf b) where
+    pub plan-damaged : (g .refusal ≡ 0 → ⊥) → HostPromise (hostRefusalBy long b n) bytes For out (256 + g .refusal) out
+    plan-damaged bad = refused-by _ (g .refusal) (rw fit (damaged-by b g o n bad)) bad
 
     -- what the planner promises, given on
-    pub plan-done : (r : Planned) (k : ℕ) (left : List ℕ) → m ≡ 0 → (wellFormed (conditionIn b) ≡ false → n ≡ 3)
+    pub plan-done : (r : Planned) (k : ℕ) (left : List ℕ) → g .refusal ≡ 0 → (wellFormed (conditionIn b) ≡ false → n ≡ 3)
         → Promise n bytes For out left r
         → k ≡ hostAnswer (r .refusal) (r .length) → HostPromise (hostRefusalBy long b n) bytes For out k left
     unfolding hostAnswer bytesBy
-    plan-done r k left z u q e =
-        rw (fit, left-to b m d z n u)
+    plan-done r k left ok u q e =
+        rw (fit, left-to b g o ok n u)
         (⊎-elim (λ (z : n ≡ 0). let ra : r .refusal ≡ 0 = ap (λ (y : Planned). y .refusal) (q .answer) ∙ z in
         let rl : r .length ≡ length bytes = ap (λ (y : Planned). y .length) (q .answer) ∙ rw (eq-eqb n 0 z) in
         let ek : k ≡ r .length = e ∙ rw (eq-eqb (r .refusal) 0 ra) in
@@ -171,7 +190,7 @@ module _ (b : List ℕ) (n : ℕ) (bytes : List ℕ) (For : List ℕ → Type 0)
         zero-or : (n : ℕ) → (n ≡ 0) ⊎ (n ≡ 0 → ⊥)
         zero-or n = ⊎-elim (λ (e : eqb n 0 ≡ true). inl (eqb-true n 0 e)) (λ (e : eqb n 0 ≡ false). inr (eqb-false n 0 e)) (bool (eqb n 0))
 
--- the planner's promise of the condition that was unpacked, as one of the condition in the block
+-- the planner's promise of the condition at hand, as one of the condition in the block
 module _ (b : List ℕ) (c : Condition) (e : c ≡ conditionIn b) where
   pub plan-read : (w : List ℕ) (k : ℕ) (out left : List ℕ) (r : Planned) → Plans c w k out left r
       → Plans (conditionIn b) w k out left r

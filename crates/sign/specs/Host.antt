@@ -6,10 +6,11 @@ use mathlib.Core.Bool.{Bool, cond, not, _&&_}
 use mathlib.Core.List.{List, [], _∷_, _++_}
 use lib.ListN.{length, getD, take, drop}
 use lib.Dec.{eqb, ltb, leb}
+use Rattle.condition.specs.declared.Outcome.{Outcome}
 use Rattle.condition.specs.Condition.{powerUp}
 use Rattle.layout.specs.Layout.{conditionIn}
 use Rattle.block.specs.Block.{blockOf}
-use Rattle.block.specs.Reading.{readRefusal}
+use Rattle.block.specs.Reading.{readRefusal, damageOf, refusedOf}
 use Rattle.interpreter.specs.declared.Tally.{Tally}
 use Rattle.interpreter.specs.declared.Ran.{Ran}
 use Rattle.interpreter.specs.Run.{runAnswer}
@@ -30,6 +31,12 @@ tallyAt s = record { bytes = numberAt s 0; busy = numberAt s 4; flickerless = nu
 
 unfoldable pub tallyBytes : Tally → List ℕ
 tallyBytes t = fourBytes (t .bytes) ++ (fourBytes (t .busy) ++ fourBytes (t .flickerless))
+
+-- A block is looked at once ------------------------------------------------------------------------------------------------
+
+-- the condition that stands in a block that is not damaged, well formed or not; as a refused reading, power-up for font 0
+unfoldable pub openedOf : List ℕ → Outcome
+openedOf b = cond (eqb (damageOf b) 0) (record { refusal = 0; condition = conditionIn b }) (refusedOf (damageOf b))
 
 -- Run ---------------------------------------------------------------------------------------------------------------------
 

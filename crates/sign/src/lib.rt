@@ -2,9 +2,8 @@
 ghost use mathlib.Core.Path.{_≡_};
 ghost use Prim.Native.Nat.{_+_, _*_, _/_, _%_, _≤_, _<_};
 ghost use lib.ListN.{length};
-ghost use Rattle.layout.specs.Layout.{unpackedOf};
-ghost use Rattle.block.specs.Tidy.{damageOf};
-ghost use Rattle.sign.specs.Host.{numberAt, fourBytes, tallyAt, tallyBytes, hostAnswer, HostRun, HostPlan, HostFonts, HostPowerUp};
+ghost use Rattle.sign.specs.Host.{openedOf, numberAt, fourBytes, tallyAt, tallyBytes, hostAnswer};
+ghost use Rattle.sign.specs.Host.{HostRun, HostPlan, HostFonts, HostPowerUp};
 use condition::Condition;
 use condition::Outcome;
 use interpreter::Tally;
@@ -84,15 +83,20 @@ fn tally_bytes(t: Tally) -> [u8; 12]
     ]
 }
 
-// The condition that stands in a block, well formed or not, and what the block is refused for whatever stands in it. So a call
+// The condition that stands in a block, well formed or not, or what the block is refused for whatever stands in it. So a call
 // looks at a block once: what it then has the library do refuses by 3 where the condition is not well formed.
 fn opened(block: &[u8]) -> Outcome
-    ensures { λ r. ⌜ (r .refusal ≡ damageOf (now (block .entry))) × (r .condition ≡ unpackedOf (now (block .entry))) ⌝ }
+    ensures { λ r. ⌜ r ≡ openedOf (now (block .entry)) ⌝ }
 {
     let damage = block::damage(block);
+    if damage != 0 {
+        let mut none = Condition::power_up(0);
+        none.refusal = damage;
+        return none;
+    }
     let c = layout::unpacked(block);
     Outcome {
-        refusal: damage,
+        refusal: 0,
         condition: c,
     }
 }

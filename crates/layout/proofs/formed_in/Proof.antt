@@ -20,38 +20,38 @@ pending-in-requires c κs = search needs
 numbers-in-requires : tie.Need-numbers-in-requires
 numbers-in-requires c κs = search needs
 
-sub-rows-formed : tie.Need-sub-rows-formed
-sub-rows-formed c = search needs
+sub-rows-good : tie.Need-sub-rows-good
+sub-rows-good c = search needs
 
-part-rows-formed-start : tie.Need-part-rows-formed-start
-part-rows-formed-start c = search needs
+part-rows-good-start : tie.Need-part-rows-good-start
+part-rows-good-start c = search needs
 
-part-rows-formed-end : tie.Need-part-rows-formed-end
-part-rows-formed-end c = search needs
+part-rows-good-end : tie.Need-part-rows-good-end
+part-rows-good-end c = search needs
 
-shared-slice-read-rows-formed : tie.Need-shared-slice-read-rows-formed
-shared-slice-read-rows-formed c = search needs
+shared-slice-read-rows-good : tie.Need-shared-slice-read-rows-good
+shared-slice-read-rows-good c = search needs
 
-sub-rows-formed-2 : tie.Need-sub-rows-formed-2
-sub-rows-formed-2 c = search needs
+sub-rows-good-2 : tie.Need-sub-rows-good-2
+sub-rows-good-2 c = search needs
 
-part-rows-formed-start-2 : tie.Need-part-rows-formed-start-2
-part-rows-formed-start-2 c = search needs
+part-rows-good-start-2 : tie.Need-part-rows-good-start-2
+part-rows-good-start-2 c = search needs
 
-part-rows-formed-end-2 : tie.Need-part-rows-formed-end-2
-part-rows-formed-end-2 c = search needs
+part-rows-good-end-2 : tie.Need-part-rows-good-end-2
+part-rows-good-end-2 c = search needs
 
-sub-rows-formed-3 : tie.Need-sub-rows-formed-3
-sub-rows-formed-3 c = search needs
+sub-rows-good-3 : tie.Need-sub-rows-good-3
+sub-rows-good-3 c = search needs
 
-part-rows-formed-start-3 : tie.Need-part-rows-formed-start-3
-part-rows-formed-start-3 c = search needs
+part-rows-good-start-3 : tie.Need-part-rows-good-start-3
+part-rows-good-start-3 c = search needs
 
-part-rows-formed-end-3 : tie.Need-part-rows-formed-end-3
-part-rows-formed-end-3 c = search needs
+part-rows-good-end-3 : tie.Need-part-rows-good-end-3
+part-rows-good-end-3 c = search needs
 
-rows-formed-requires : tie.Need-rows-formed-requires
-rows-formed-requires c κs = search needs
+rows-good-requires : tie.Need-rows-good-requires
+rows-good-requires c κs = search needs
 
 returns : tie.Need-returns
 unfolding conditionIn
@@ -59,8 +59,8 @@ returns c =
     let p = c .before .before .before .before .before .before in
     let s = p .before .before .before .before .before .args .s .now in
     let z = sized-in s (search needs) in
-    rw (c .rows-formed .ensures, c .before .before .before .before .before .numbers-in .ensures, p .pending-in .ensures)
-    (rows-law (conditionIn s) (z .users-96) (z .held-4))
+    rw (c .rows-good .ensures, c .before .before .before .before .before .numbers-in .ensures, p .pending-in .ensures)
+    (rows-law (conditionIn s) (z .fonts-40) (z .users-96) (z .held-4))
 
 pub formed-in-spec : {M : Type 1} → statement M
 formed-in-spec =
@@ -71,15 +71,15 @@ formed-in-spec =
     shared-slice-read-pending-in-3
     pending-in-requires
     numbers-in-requires
-    sub-rows-formed
-    part-rows-formed-start
-    part-rows-formed-end
-    shared-slice-read-rows-formed
-    sub-rows-formed-2
-    part-rows-formed-start-2
-    part-rows-formed-end-2
-    sub-rows-formed-3
-    part-rows-formed-start-3
-    part-rows-formed-end-3
-    rows-formed-requires
+    sub-rows-good
+    part-rows-good-start
+    part-rows-good-end
+    shared-slice-read-rows-good
+    sub-rows-good-2
+    part-rows-good-start-2
+    part-rows-good-end-2
+    sub-rows-good-3
+    part-rows-good-start-3
+    part-rows-good-end-3
+    rows-good-requires
     returns)

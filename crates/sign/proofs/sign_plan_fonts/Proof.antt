@@ -25,7 +25,7 @@ unfolding hostFontsRefusal
 returns-2 c =
     let g = c .before .before .before in
     rw (c .refused2 .ensures)
-    (plan-damaged _ _ _ _ _ _ (not-false _ (g .before .if1 .left)) _ (g .opened .ensures .0) (c .before .if2 .taken))
+    (plan-damaged _ _ _ _ _ _ (not-false _ (g .before .if1 .left)) _ (g .opened .ensures) (c .before .if2 .taken))
 
 plan-fonts-requires : tie.Need-plan-fonts-requires
 plan-fonts-requires c κs = search needs
@@ -43,9 +43,9 @@ returns-3 c =
     let g = k .before .before in
     let fit = not-false _ (g .before .if1 .left) in
     let p =
-    fonts-read _ _ (in-block _ _ (g .opened .ensures .0) (k .if2 .left) _ (g .opened .ensures .1)) _ _ _ _ _ _
+    fonts-read _ _ (in-block _ _ (g .opened .ensures) (k .if2 .left)) _ _ _ _ _ _
     (c .before .before .before .plan-fonts .ensures) in
-    plan-done _ _ _ _ _ _ fit _ (g .opened .ensures .0) _ _ _ (k .if2 .left) (λ w. unformed _ _ _ _ _ _ fit w) p
+    plan-done _ _ _ _ _ _ fit _ (g .opened .ensures) _ _ _ (k .if2 .left) (λ w. unformed _ _ _ _ _ _ fit w) p
     (c .answer .ensures)
 
 pub sign-plan-fonts-spec : {M : Type 1} → statement M

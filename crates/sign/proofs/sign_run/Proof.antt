@@ -18,7 +18,7 @@ same-length c = search needs
 returns-2 : tie.Need-returns-2
 returns-2 c =
     let g = c .before .before .before in
-    rw (c .wide .ensures) (run-damaged _ _ _ (g .before .before .if1 .left) _ (g .opened .ensures .0) (c .before .if2 .taken))
+    rw (c .wide .ensures) (run-damaged _ _ _ (g .before .before .if1 .left) _ (g .opened .ensures) (c .before .if2 .taken))
 
 tally-at-requires : tie.Need-tally-at-requires
 tally-at-requires c κs = search needs
@@ -41,7 +41,7 @@ returns-3 c =
     let k = r .before .before .before .before in
     let g = k .before .before in
     rw (c .wide2 .ensures)
-    (run-stopped _ _ _ (g .before .before .if1 .left) _ (g .opened .ensures .0) _ _ _ (k .if2 .left) (g .opened .ensures .1)
+    (run-stopped _ _ _ (g .before .before .if1 .left) _ (g .opened .ensures) _ _ (k .if2 .left)
     (r .before .before .tally-at .ensures) (r .run .ensures) (c .before .if3 .taken))
 
 put-requires : tie.Need-put-requires
@@ -68,7 +68,7 @@ returns-4 c =
     let r = w .before .before .before .before .before in
     let k = r .before .before .before .before in
     let g = k .before .before in
-    run-written _ _ _ (g .before .before .if1 .left) _ (g .opened .ensures .0) _ _ _ (k .if2 .left) (g .opened .ensures .1)
+    run-written _ _ _ (g .before .before .if1 .left) _ (g .opened .ensures) _ _ (k .if2 .left)
     (r .before .before .tally-at .ensures) (r .run .ensures) _ _ _ (w .before .before .before .if3 .left) (w .put .ensures)
     (c .before .before .before .before .before .tally-bytes .ensures) (c .before .before .copy .ensures)
 

@@ -5,8 +5,9 @@ use borrow.Author.Needs.{needs}
 use Rattle.condition.proofs.Condition.well_formed.Statement.{statement}
 use Rattle.condition.proofs.Condition.well_formed.Tie as tie
 
-sized : (c : tie.Start) → (length (c .args .self .users .bytes) ≡ 96) × (length (c .args .self .held) ≡ 4)
-sized c = (search needs, search needs)
+sized : (c : tie.Start)
+    → (length (c .args .self .fonts) ≡ 40) × (length (c .args .self .users .bytes) ≡ 96) × (length (c .args .self .held) ≡ 4)
+sized c = (search needs, search needs, search needs)
 
 numbers-good-requires : tie.Need-numbers-good-requires
 numbers-good-requires c κs = search needs
@@ -14,24 +15,24 @@ numbers-good-requires c κs = search needs
 scroll-good-requires : tie.Need-scroll-good-requires
 scroll-good-requires c κs = search needs
 
-slice-aggregate-rows-formed : tie.Need-slice-aggregate-rows-formed
-slice-aggregate-rows-formed c = search needs
+slice-aggregate-rows-good : tie.Need-slice-aggregate-rows-good
+slice-aggregate-rows-good c = search needs
 
-slice-aggregate-rows-formed-2 : tie.Need-slice-aggregate-rows-formed-2
-slice-aggregate-rows-formed-2 c = search needs
+slice-aggregate-rows-good-2 : tie.Need-slice-aggregate-rows-good-2
+slice-aggregate-rows-good-2 c = search needs
 
-slice-aggregate-rows-formed-3 : tie.Need-slice-aggregate-rows-formed-3
-slice-aggregate-rows-formed-3 c = search needs
+slice-aggregate-rows-good-3 : tie.Need-slice-aggregate-rows-good-3
+slice-aggregate-rows-good-3 c = search needs
 
-rows-formed-requires : tie.Need-rows-formed-requires
-rows-formed-requires c κs = search needs
+rows-good-requires : tie.Need-rows-good-requires
+rows-good-requires c κs = search needs
 
 returns : tie.Need-returns
 returns c =
     let n = c .before .before .before .before .before in
     let a = n .before .before .before .before .before in
-    rw (c .rows-formed .ensures, c .before .before .before .before .scroll-good .ensures, n .numbers-good .ensures)
-    (rows-law (a .args .self) (sized a .0) (sized a .1))
+    rw (c .rows-good .ensures, c .before .before .before .before .scroll-good .ensures, n .numbers-good .ensures)
+    (rows-law (a .args .self) (sized a .0) (sized a .1) (sized a .2))
 
 pub well-formed-spec : {M : Type 1} → statement M
 well-formed-spec =
@@ -39,8 +40,8 @@ well-formed-spec =
     (tie.spec
     numbers-good-requires
     scroll-good-requires
-    slice-aggregate-rows-formed
-    slice-aggregate-rows-formed-2
-    slice-aggregate-rows-formed-3
-    rows-formed-requires
+    slice-aggregate-rows-good
+    slice-aggregate-rows-good-2
+    slice-aggregate-rows-good-3
+    rows-good-requires
     returns)

@@ -12,7 +12,7 @@ asked-requires c κs = search needs
 
 returns : tie.Need-returns
 unfolding hostDot
-returns c = rw (c .asked .ensures) (asked-damaged _ _ (c .before .before .before .opened .ensures .0) _ _ _ (c .before .if1 .taken))
+returns c = rw (c .asked .ensures) (asked-damaged _ _ (c .before .before .before .opened .ensures) _ _ _ (c .before .if1 .taken))
 
 dot-requires : tie.Need-dot-requires
 dot-requires c κs = search needs
@@ -25,7 +25,7 @@ returns-2 c =
     let k = c .before .before .before in
     let g = k .before .before in
     rw (c .asked2 .ensures)
-    (dot-read _ _ (g .opened .ensures .0) _ (k .if1 .left) (g .opened .ensures .1) _ _ _ (c .before .dot .ensures))
+    (dot-read _ _ (g .opened .ensures) (k .if1 .left) _ _ _ (c .before .dot .ensures))
 
 pub sign-dot-spec : {M : Type 1} → statement M
 sign-dot-spec =

@@ -12,7 +12,7 @@ asked-requires c κs = search needs
 
 returns : tie.Need-returns
 unfolding hostLit
-returns c = rw (c .asked .ensures) (asked-damaged _ _ (c .before .before .before .opened .ensures .0) _ _ _ (c .before .if1 .taken))
+returns c = rw (c .asked .ensures) (asked-damaged _ _ (c .before .before .before .opened .ensures) _ _ _ (c .before .if1 .taken))
 
 lit-requires : tie.Need-lit-requires
 lit-requires c κs = search needs
@@ -25,7 +25,7 @@ returns-2 c =
     let k = c .before .before .before in
     let g = k .before .before in
     rw (c .asked2 .ensures)
-    (lit-read _ _ (g .opened .ensures .0) _ (k .if1 .left) (g .opened .ensures .1) _ _ (c .before .lit .ensures))
+    (lit-read _ _ (g .opened .ensures) (k .if1 .left) _ _ (c .before .lit .ensures))
 
 pub sign-lit-spec : {M : Type 1} → statement M
 sign-lit-spec =
