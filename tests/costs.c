@@ -3,13 +3,19 @@
    3 every fifth cell. In two fonts, every cell wrong: 4 the lower line Katakana, 5 the longest plan (fonts in turn,
    Katakana selected, Euro on). With 16 user characters: 6 sign_view of a cell with the youngest, of which
    7 sign_dot, 8 sign_underline, 9 sign_lit. Runs from power-up font 0: 10 of no byte, 11 of one character, 12 of 26
-   bytes, as many as a plan has in the mean: 0Ch and 25 characters. Prints the last answer. */
+   bytes, as many as a plan has in the mean: 0Ch and 25 characters. Prints what it called and the last answer. */
 #include <stdio.h>
 #include <stdlib.h>
 #include <string.h>
 #include "sign.h"
 
 static uint8_t block[SIGN_BLOCK], tally[SIGN_TALLY], codes[SIGN_CELLS], fonts[SIGN_CELLS], out[SIGN_FONTS_ROOM];
+
+static const char *const called[] = {
+    "sign_plan, nothing wrong", "sign_plan, every cell wrong", "sign_plan, every second cell", "sign_plan, every fifth cell",
+    "sign_plan_fonts, lower line Katakana", "sign_plan_fonts, the longest", "sign_view", "sign_dot", "sign_underline", "sign_lit",
+    "sign_run, no byte", "sign_run, one character", "sign_run, 26 bytes",
+};
 
 static uint32_t run(const uint8_t *bytes, size_t n) { return sign_run(block, sizeof block, tally, sizeof tally, bytes, n); }
 
@@ -47,6 +53,6 @@ int main(int argc, char **argv) {
     for (int i = 0; i < SIGN_CELLS; i++) fonts[i] = kind == 4 ? i >= SIGN_CELLS / 2 : i % 2;
     uint32_t answer = 0;
     for (int i = 0; i < times; i++) answer = call(kind);
-    printf("%u\n", (unsigned)answer);
+    printf("%s answers %u\n", called[kind], (unsigned)answer);
     return 0;
 }

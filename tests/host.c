@@ -1,5 +1,5 @@
 /* The fourteen cases of the bench sheet (document 01), pictures of two fonts (request W1), one refusal of
-   each number, the places and names of sign.h, and what docs/HOST.md advises (what ends half a command,
+   each number, a wrong length that is refused unread, the places and names of sign.h, and what docs/HOST.md advises (what ends half a command,
    recovery), through the C functions. Prints ok, or what failed. */
 
 #include <stdio.h>
@@ -368,6 +368,16 @@ static void advice(void) {
     check("5: a tally of 0", run(want, 1) == SIGN_TALLY_FULL && memset(tally, 0, sizeof tally) != NULL && run(want, 1) == 0);
 }
 
+/* A block of another length is refused before a byte of it is read: here nothing can be. */
+static void unread(void) {
+    uint8_t *nowhere = (uint8_t *)1;
+    check("run unread", sign_run(nowhere, 511, tally, sizeof tally, want, 1) == SIGN_WRONG_LENGTH);
+    check("plan unread", sign_plan(nowhere, 513, want, sizeof want, 0, out, sizeof out) == SIGN_REFUSED + SIGN_WRONG_LENGTH);
+    check("fonts unread", sign_plan_fonts(nowhere, 4096, want, sizeof want, fonts, sizeof fonts, 0, out, sizeof out)
+        == SIGN_REFUSED + SIGN_WRONG_LENGTH);
+    check("view unread", sign_view(nowhere, 200, 0) == SIGN_ASKED_REFUSED + SIGN_WRONG_LENGTH);
+}
+
 int main(int argc, char **argv) {
     check("eight bytes of recovery", argc == 1 + (int)sizeof recovery);
     for (int i = 0; i + 1 < argc && i < (int)sizeof recovery; i++) recovery[i] = (uint8_t)strtoul(argv[i + 1], NULL, 16);
@@ -377,6 +387,7 @@ int main(int argc, char **argv) {
     fonts_refusals();
     memset(want, 0x20, sizeof want);
     refusals();
+    unread();
     places();
     questions();
     half_received();

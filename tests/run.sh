@@ -172,7 +172,7 @@ costs)
     for kind in 0 1 2 3 4 5 6 7 8 9 10 11 12; do
         ninety=$(count "$out/costs" "$kind" 90)
         ten=$(count "$out/costs" "$kind" 10)
-        echo "costs: kind $kind takes $(((ninety - ten) / 80)) instructions and answers $($RUN "$out/costs" "$kind" 1)"
+        echo "costs: kind $kind, $($RUN "$out/costs" "$kind" 1): $(((ninety - ten) / 80)) instructions"
     done
     echo "costs: libsign.a has $("${CROSS}size" target/staticlib/libsign.a | awk 'NR > 1 { n += $1 } END { print n }') bytes of code and constants"
     ;;
