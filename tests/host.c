@@ -368,14 +368,18 @@ static void advice(void) {
     check("5: a tally of 0", run(want, 1) == SIGN_TALLY_FULL && memset(tally, 0, sizeof tally) != NULL && run(want, 1) == 0);
 }
 
-/* A block of another length is refused before a byte of it is read: here nothing can be. */
+/* A block of another length is refused before a byte of it is read. The pointer is one that sign.h forbids: a
+   read would end the test. */
 static void unread(void) {
     uint8_t *nowhere = (uint8_t *)1;
     check("run unread", sign_run(nowhere, 511, tally, sizeof tally, want, 1) == SIGN_WRONG_LENGTH);
     check("plan unread", sign_plan(nowhere, 513, want, sizeof want, 0, out, sizeof out) == SIGN_REFUSED + SIGN_WRONG_LENGTH);
     check("fonts unread", sign_plan_fonts(nowhere, 4096, want, sizeof want, fonts, sizeof fonts, 0, out, sizeof out)
         == SIGN_REFUSED + SIGN_WRONG_LENGTH);
-    check("view unread", sign_view(nowhere, 200, 0) == SIGN_ASKED_REFUSED + SIGN_WRONG_LENGTH);
+    check("questions unread", sign_view(nowhere, 200, 0) == SIGN_ASKED_REFUSED + SIGN_WRONG_LENGTH
+        && sign_dot(nowhere, 511, 0x41, 1) == SIGN_ASKED_REFUSED + SIGN_WRONG_LENGTH
+        && sign_underline(nowhere, 513, 0x41) == SIGN_ASKED_REFUSED + SIGN_WRONG_LENGTH
+        && sign_lit(nowhere, 1024, 0x41) == SIGN_ASKED_REFUSED + SIGN_WRONG_LENGTH);
 }
 
 int main(int argc, char **argv) {
