@@ -7,14 +7,14 @@ use native.Mathlib.Omega.{arith}
 use lib.Dec.{leb, ltb, eqb}
 use lib.ListN.{set, take, drop, length, length-append, length-take, length-drop, length-set, length-replicate}
 use borrow.Author.Tests.{leb-true, ltb-true, le-leb, lt-ltb}
+use Rattle.laws.proofs.Tests.{both, by-test}
 use Rattle.row.specs.Row.{lineStart, scrolled, shifted}
 use Rattle.users.specs.Users.{defineOf}
-use Rattle.users.proofs.Places.{by-test, define-96}
+use Rattle.users.proofs.Places.{define-96}
 use Rattle.condition.specs.declared.Condition.{Condition}
 use Rattle.condition.specs.Condition.{column, allUpTo, usersGood, pendingGood, numbersGood, scrollGood, escapeGood, wellFormed, powerUp}
 use Rattle.condition.specs.Set.{withCell}
 use Rattle.condition.specs.Bytes.{scrollOf, leftOf, rightOf, downOf, returnOf, clearOf, pushOf, writeOf, positionOf, dataOf, stepOf, runOf}
-use Rattle.condition.proofs.Places.{both}
 use Rattle.condition.proofs.Each.{Commands, step-by, run-by}
 
 -- the parts of well-formedness

@@ -1,6 +1,6 @@
 -- Every command keeps a condition well formed.
 use mathlib.Core.Path.{_≡_, refl}
-use mathlib.Core.Bool.{Bool, true, false, cond, _&&_, _||_, not}
+use mathlib.Core.Bool.{Bool, true, false, cond, _&&_, _||_, not, and-false, or-true}
 use mathlib.Core.List.{List, _∷_, _++_}
 use Prim.Native.Nat.{ℕ, zero, suc, _<_, _≤_, _+_, _-_, _/_, _%_}
 use native.Mathlib.Omega.{arith}
@@ -8,16 +8,16 @@ use lib.Dec.{leb, ltb, eqb}
 use lib.ListN.{getD, set, take, drop, replicate}
 use lib.Seq.{drop-set-lt, drop-drop}
 use borrow.Author.Tests.{ltb-true, leb-true, le-leb, ne-eqb}
+use Rattle.laws.proofs.Tests.{both, neither, by-test}
 use Rattle.row.specs.Row.{lineStart, scrolled, shifted}
 use Rattle.users.specs.Users.{isUser}
-use Rattle.users.proofs.Places.{by-test, not-user, define-count}
+use Rattle.users.proofs.Places.{not-user, define-count}
 use Rattle.condition.specs.declared.Condition.{Condition}
 use Rattle.condition.specs.declared.Pending.{Pending}
 use Rattle.condition.specs.declared.Pending.the-variants.{Nothing, Escape, UserData}
 use Rattle.condition.specs.Condition.{column, idle, heldOf, allUpTo, absent, usersGood, pendingGood, numbersGood, scrollGood, escapeGood, wellFormed, powerUp}
 use Rattle.condition.specs.Set.{withCells, withCell, withCursor, withMode, withScrolling, withShown, withFont, withEuro, withLuminance, withSpeed, withFlickerless, withPending, goTo}
 use Rattle.condition.specs.Bytes.{scrollOf, leftOf, rightOf, downOf, returnOf, clearOf, pushOf, writeOf, isChar, positionOf, dataOf, stepOf, runOf}
-use Rattle.condition.proofs.Places.{both, and-false}
 use Rattle.condition.proofs.Ranges.{up-to-set, up-to-append, up-to-cons, up-to-take, up-to-drop, up-to-replicate}
 use Rattle.condition.proofs.Users.{define-good, at-absent}
 use Rattle.condition.proofs.Each.{Commands, step-by, run-by}
@@ -45,10 +45,6 @@ shifted-1 start v a h e =
     (up-to-cons 1 v (drop (start + 20) a) h (up-to-drop 1 (start + 20) a e))
 
 -- One field changed --------------------------------------------------------------------------------------------------------
-
-or-true : (a b : Bool) → b ≡ true → (a || b) ≡ true
-or-true true b e = refl
-or-true false b e = e
 
 module _ (c : Condition) (g : Good c) where
   pub cells-kept : (x y : List ℕ) → allUpTo 1 y ≡ true → Good (withCells c x y)
@@ -92,7 +88,7 @@ module _ (c : Condition) (g : Good c) where
   unfolding scrollGood escapeGood pendingGood
   await-kept p e z a =
       let h : (leb (heldOf p) 4 && allUpTo 0 (drop (heldOf p) (c .held))) ≡ true = rw z (rw e at (g .pending-good)) in
-      let k : (idle p || absent 0x1B (c .users .count) (c .users .bytes)) ≡ true = or-true (idle p) (absent 0x1B (c .users .count) (c .users .bytes)) a in
+      let k : (idle p || absent 0x1B (c .users .count) (c .users .bytes)) ≡ true = rw a (or-true (idle p)) in
       search
 
   pub no-escape : idle (c .pending) ≡ false → absent 0x1B (c .users .count) (c .users .bytes) ≡ true
@@ -194,11 +190,7 @@ pub escape-free : (c : Condition) → Sized c → Good c → isChar c 0x1B ≡ f
 unfolding isChar
 escape-free c s g e =
     at-absent 0x1B (c .users .count) (c .users .bytes)
-    (not-user (c .users) 0x1B (s .users-96) (g .count-16) (first (isUser (c .users) 0x1B) e))
-  where
-    first : (t : Bool) → (t || false) ≡ false → t ≡ false
-    first false h = refl
-    first true h = h
+    (not-user (c .users) 0x1B (s .users-96) (g .count-16) (neither (isUser (c .users) 0x1B) _ e .0))
 
 pub commands-kept : (c : Condition) (b : ℕ) → Sized c → b < 256 → Good c → Commands Good c b
 unfolding positionOf

@@ -7,8 +7,8 @@ use native.Mathlib.Omega.{arith}
 use lib.Dec.{leb}
 use lib.ListN.{length, getD, set, take, drop, replicate}
 use borrow.Author.Tests.{leb-true, le-leb}
+use Rattle.laws.proofs.Tests.{both}
 use Rattle.condition.specs.Condition.{allUpTo}
-use Rattle.condition.proofs.Places.{both}
 
 -- every element is at most n
 pub up-to-at : (n : ℕ) (l : List ℕ) → allUpTo n l ≡ true → (i : ℕ) → getD l i 0 ≤ n

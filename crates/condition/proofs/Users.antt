@@ -8,11 +8,11 @@ use lib.Dec.{ltb, eqb}
 use lib.ListN.{getD, drop, length}
 use lib.Seq.{getD-drop}
 use borrow.Author.Tests.{ltb-true, eqb-false, not-true, lt-ltb, ne-eqb}
+use Rattle.laws.proofs.Tests.{both}
 use Rattle.users.specs.declared.Users.{Users}
 use Rattle.users.specs.Users.{defineOf}
 use Rattle.users.proofs.Places.{Places, define-places}
 use Rattle.condition.specs.Condition.{absent, usersGood}
-use Rattle.condition.proofs.Places.{both}
 use Rattle.condition.proofs.Ranges.{up-to-at, at-up-to}
 
 -- the places after the first

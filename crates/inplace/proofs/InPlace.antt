@@ -8,7 +8,7 @@ use borrow.Author.Tests.{eq-eqb}
 use lib.ListN.{length, getD, take, drop, set, replicate, length-drop, take-append-drop}
 use lib.Seq.{take-at, drop-at, drop-drop, take-add, length-take-le, take-all, drop-length}
 use Rattle.row.specs.Row.{onPicture, laid}
-use Rattle.row.proofs.Laws.{pictured}
+use Rattle.row.proofs.Laws.{pictured, filled}
 use Rattle.users.specs.Users.{usersIn, defineIn}
 use Rattle.condition.specs.declared.Condition.{Condition}
 use Rattle.condition.specs.Condition.{powerUp}
@@ -287,11 +287,6 @@ define-by s x n code last h hx hl e =
     count-in (spliced 104 96 s x) n hl ∙ ap (λ (k : Condition). withCount k n) (users-in s x h hx)
     ∙ ap (withUsers (conditionIn s)) (e ∙ rw (eq-eqb _ 96 l, users-at s, held-in s h))
 
--- as many bytes as there is room for
-laid-all : (s d : List ℕ) → length s ≡ length d → laid s d ≡ s
-unfolding laid
-laid-all s d h = rw (← h, take-all (length s) s (omega arith), h, drop-length d) (append-nil s)
-
 -- bytes 3 to 20 at power-up for a font
 abbrev freshHead : ℕ → List ℕ
 freshHead f = 0 ∷ 1 ∷ 0 ∷ 0 ∷ f ∷ f ∷ 0 ∷ 3 ∷ 0x14 ∷ 0 ∷ 0 ∷ 0 ∷ 0 ∷ 0 ∷ 0 ∷ 0 ∷ 0 ∷ 0 ∷ []
@@ -304,4 +299,4 @@ pub reset-by : (s x : List ℕ) (f : ℕ) → 200 ≤ length s → x ≡ laid (f
     → conditionIn (spliced 3 18 s x) ≡ resetIn (conditionIn s) f
 reset-by s x f h e =
     let l : length (take 18 (drop 3 s)) ≡ 18 = length-take-le 18 (drop 3 s) (simp length-drop (omega arith)) in
-    rw (e, laid-all (freshHead f) (take 18 (drop 3 s)) (sym l)) (reset-in s f h)
+    rw (e, filled (freshHead f) (take 18 (drop 3 s)) 18 refl l) (reset-in s f h)

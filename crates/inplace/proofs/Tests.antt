@@ -1,11 +1,9 @@
 -- What the code's tests tell of the definitions' tests.
 use Prim.Native.Nat.{ℕ, _%_, _<_}
 use mathlib.Core.Path.{_≡_, refl, sym}
-use mathlib.Core.Bool.{Bool, true, false, _||_}
+use mathlib.Core.Bool.{Bool, true, false}
 use native.Mathlib.Omega.{arith}
 use lib.Dec.{eqb, ltb}
-use Rattle.condition.specs.declared.Pending.the-variants.{UserData}
-use Rattle.layout.specs.Layout.{pendingOf}
 use borrow.Author.Tests.{lt-ltb, le-ltb, le-leb, lt-leb, eq-eqb, ne-eqb, ltb-true, ltb-false}
 
 -- what turns a test into its answer: `search tests`
@@ -28,13 +26,3 @@ edge-column x e = eq-eqb (x % 20) 19 (omega (arith, ltb-false (x % 20) 19 e))
 
 pub inner-column : (x : ℕ) → ltb (x % 20) 19 ≡ true → eqb (x % 20) 19 ≡ false
 inner-column x e = ne-eqb (x % 20) 19 (λ q. omega (arith, ltb-true (x % 20) 19 e))
-
-pub or-true : (a : Bool) → a || true ≡ true
-or-true true = refl
-or-true false = refl
-
--- a kind that is none of 0 to 5 awaits user data
-pub awaits-data : (k code n : ℕ) → 0 < k → (k ≡ 1 → ⊥) → (k ≡ 2 → ⊥) → (k ≡ 3 → ⊥) → (k ≡ 4 → ⊥) → (k ≡ 5 → ⊥)
-    → pendingOf k code n ≡ UserData code n
-awaits-data k code n h h1 h2 h3 h4 h5 =
-    rw (ne-eqb k 0 (λ q. omega arith), ne-eqb k 1 h1, ne-eqb k 2 h2, ne-eqb k 3 h3, ne-eqb k 4 h4, ne-eqb k 5 h5)

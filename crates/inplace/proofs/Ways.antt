@@ -2,20 +2,22 @@
 use Prim.Native.Nat.{ℕ, _+_, _%_, _≤_, _<_}
 use mathlib.Core.Path.{_≡_, sym, _∙_}
 use mathlib.Core.List.{List}
-use mathlib.Core.Bool.{Bool, true, false}
+use mathlib.Core.Bool.{Bool, true, false, or-true}
+use native.Mathlib.Omega.{arith}
 use lib.Dec.{ltb}
 use lib.ListN.{getD}
 use borrow.Author.Tests.{eq-eqb, ne-eqb, le-leb, lt-leb}
 use Rattle.users.specs.Users.{isUser}
 use Rattle.condition.specs.declared.Condition.{Condition}
 use Rattle.condition.specs.declared.Pending.{Pending}
-use Rattle.condition.specs.declared.Pending.the-variants.{Nothing}
+use Rattle.condition.specs.declared.Pending.the-variants.{Nothing, UserData}
 use Rattle.condition.specs.Set.{withCursor, withCell}
 use Rattle.condition.specs.Bytes.{scrollOf, rightOf, pushOf, writeOf, isChar, controlOf, dataOf, stepAt, stepOf}
 use Rattle.condition.specs.Busy.{writeBusy, controlBusy, figureAt}
 use Rattle.layout.specs.Layout.{conditionIn, pendingOf}
+use Rattle.layout.proofs.PackedBack.{above}
 use Rattle.inplace.specs.InPlace.{Stepped}
-use Rattle.inplace.proofs.Tests.{inner-column, edge-column, awaits-data, or-true}
+use Rattle.inplace.proofs.Tests.{inner-column, edge-column}
 use Rattle.inplace.proofs.InPlace.{cursor-at, mode-at, pending-at}
 
 -- 09h, with the column's test r
@@ -64,11 +66,16 @@ pub half-step : (s : List ℕ) (b : ℕ) (p : Pending) → pendingOf (getD s 13 
     → stepAt p (conditionIn s) b ≡ stepOf (conditionIn s) b
 half-step s b p e = rw (pending-at s, e)
 
+-- a kind that is not 0 and none of 1 to 5 awaits user data
+pub awaits-data : (k code n : ℕ) → 0 < k → (k ≡ 1 → ⊥) → (k ≡ 2 → ⊥) → (k ≡ 3 → ⊥) → (k ≡ 4 → ⊥) → (k ≡ 5 → ⊥)
+    → pendingOf k code n ≡ UserData code n
+awaits-data k code n h h1 h2 h3 h4 h5 = sym (above k code n (omega arith))
+
 -- a byte of user data
-pub data-step : (s : List ℕ) (b : ℕ) → 0 < getD s 13 0 → (getD s 13 0 ≡ 1 → ⊥) → (getD s 13 0 ≡ 2 → ⊥) → (getD s 13 0 ≡ 3 → ⊥)
-    → (getD s 13 0 ≡ 4 → ⊥) → (getD s 13 0 ≡ 5 → ⊥) → dataOf (conditionIn s) (getD s 14 0) (getD s 15 0) b ≡ stepOf (conditionIn s) b
+pub data-step : (s : List ℕ) (b : ℕ) → pendingOf (getD s 13 0) (getD s 14 0) (getD s 15 0) ≡ UserData (getD s 14 0) (getD s 15 0)
+    → dataOf (conditionIn s) (getD s 14 0) (getD s 15 0) b ≡ stepOf (conditionIn s) b
 unfolding stepAt
-data-step s b h h1 h2 h3 h4 h5 = half-step s b _ (awaits-data (getD s 13 0) (getD s 14 0) (getD s 15 0) h h1 h2 h3 h4 h5)
+data-step s b e = half-step s b _ e
 
 -- Which bytes are characters: 20h-FFh, and a user code
 module _ (c : Condition) (b : ℕ) where

@@ -6,14 +6,7 @@ use native.Mathlib.Omega.{arith}
 use lib.ListN.{length, take, drop, replicate, length-append, length-drop, length-replicate, drop-of-length-le}
 use lib.Seq.{take-at, drop-at, take-all, length-take-le}
 use Rattle.row.specs.Row.{laid}
-
--- as many bytes as there is room for
-pub filled : (q d : List ℕ) (n : ℕ) → length q ≡ n → length d ≡ n → laid q d ≡ q
-unfolding laid
-filled q d n hq hd =
-    let a : length q ≤ length d = omega arith in
-    let b : length d ≤ length q = omega arith in
-    rw (take-all (length d) q a, drop-of-length-le d b) (append-nil q)
+use Rattle.row.proofs.Laws.{filled}
 
 -- a part, copied to a place of its own
 pub copied : (s : List ℕ) (at n : ℕ) → at + n ≤ length s → laid (take n (drop at s)) (replicate n 0) ≡ take n (drop at s)

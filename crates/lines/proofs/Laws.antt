@@ -11,8 +11,8 @@ use lib.ListN.{length, take, drop, length-append, length-take, length-drop, drop
 use lib.Seq.{take-at, take-all, take-nil, drop-nil, take-append-add, drop-append-add, length-take-le}
 use borrow.Author.Tests.{lt-ltb, le-ltb, leb-true, leb-false}
 use borrow.Rule.Slice.PartMut.{postOf}
+use Rattle.laws.proofs.Lists.{tail-part}
 use Rattle.row.specs.Row.{laid}
-use Rattle.condition.proofs.Places.{tail-part}
 use Rattle.io.specs.Digits.{digits, Fewest}
 use Rattle.interpreter.specs.declared.Ran.{Ran}
 use Rattle.lines.specs.Lines.{Added, each, decimalIn, decimalOf, tallyLine, refusedLine, endStart, endOf, printOf}

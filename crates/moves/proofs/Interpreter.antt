@@ -9,6 +9,7 @@ use native.Mathlib.Omega.{arith}
 use lib.Dec.{eqb, ltb, leb}
 use lib.ListN.{length}
 use borrow.Author.Tests.{eqb-true, eqb-false, eq-eqb, ne-eqb, ltb-true, ltb-false, lt-ltb, le-ltb, leb-true, le-leb}
+use Rattle.laws.proofs.Tests.{bool, clash, both, neither}
 use Rattle.row.specs.Row.{lineStart}
 use Rattle.users.specs.Users.{isUser}
 use Rattle.condition.specs.declared.Condition.{Condition}
@@ -22,18 +23,13 @@ use Rattle.condition.proofs.Good.{good}
 use Rattle.condition.proofs.Kept.{scroll-off}
 use Rattle.moves.specs.Moves.{any, left, next, down, moves, move}
 use Rattle.moves.specs.Ways.{Half, none, escape, place, path, leadsTo, atMost}
-use Rattle.moves.proofs.Lists.{bool, clash, and-left, and-right}
 use Rattle.moves.proofs.Moving.{each-move, move-below}
 use Rattle.moves.proofs.Strings.{shortest}
 
 -- a byte that is no character is no user code
 pub no-user : (c : Condition) (b : ℕ) → isChar c b ≡ false → isUser (c .users) b ≡ false
 unfolding isChar
-no-user c b e = left-false (isUser (c .users) b) (leb 0x20 b) e
-  where
-    left-false : (s t : Bool) → (s || t) ≡ false → s ≡ false
-    left-false true t h = h
-    left-false false t h = refl
+no-user c b e = neither (isUser (c .users) b) (leb 0x20 b) e .0
 
 -- a condition from which moves start
 pub record Ready (c : Condition) : Type 0 where
@@ -137,10 +133,6 @@ pub is-move : (b : ℕ) → isMove b ≡ any (eqb b) moves
 unfolding isMove
 is-move b = simp (or-assoc, or-false)
 
-left-true : (s : Bool) → (s || false) ≡ true → s ≡ true
-left-true true h = h
-left-true false h = h
-
 -- Whole strings of moves -----------------------------------------------------------------------------------------------------
 
 abbrev pub half : Half → Pending
@@ -167,17 +159,17 @@ leads-there c r free free27 (x ∷ xs) none a b h l =
     (λ (e : eqb x 0x1B ≡ true). ap (λ (d : Condition). runOf d xs) (ap (stepOf (partly c none a)) (eqb-true x 0x1B e) ∙ escapes (partly c none a) (partly-ready c a r h) free27)
     ∙ leads-there c r free free27 xs escape a b h (rw e at l))
     (λ (e : eqb x 0x1B ≡ false). let o = rw e at l in
-    let i : any (eqb x) moves ≡ true = and-left (any (eqb x) moves) _ o in
+    let i : any (eqb x) moves ≡ true = both (any (eqb x) moves) _ o .0 in
     ap (λ (d : Condition). runOf d xs) (moves-to (partly c none a) (partly-ready c a r h) x i (free x i))
-    ∙ leads-there c r free free27 xs none (move x a) b (move-below x a h) (and-right (any (eqb x) moves) _ o))
+    ∙ leads-there c r free free27 xs none (move x a) b (move-below x a h) (both (any (eqb x) moves) _ o .1))
     (bool (eqb x 0x1B))
 leads-there c r free free27 (x ∷ xs) escape a b h l =
-    ap (λ (d : Condition). runOf d xs) (ap (stepOf (partly c escape a)) (eqb-true x 0x48 (and-left (eqb x 0x48) _ l)))
-    ∙ leads-there c r free free27 xs place a b h (and-right (eqb x 0x48) _ l)
+    ap (λ (d : Condition). runOf d xs) (ap (stepOf (partly c escape a)) (eqb-true x 0x48 (both (eqb x 0x48) _ l .0)))
+    ∙ leads-there c r free free27 xs place a b h (both (eqb x 0x48) _ l .1)
 leads-there c r free free27 (x ∷ xs) place a b h l =
-    let z : x < 40 = (let k = leb-true x 0x27 (and-left (leb x 0x27) _ l) in omega arith) in
+    let z : x < 40 = (let k = leb-true x 0x27 (both (leb x 0x27) _ l .0) in omega arith) in
     ap (λ (d : Condition). runOf d xs) (placed (withCursor c a) x (r .still) z)
-    ∙ leads-there c r free free27 xs none x b z (and-right (leb x 0x27) _ l)
+    ∙ leads-there c r free free27 xs none x b z (both (leb x 0x27) _ l .1)
 
 -- In the words of the condition's own definitions ----------------------------------------------------------------------------
 
@@ -212,8 +204,8 @@ leads-back c r [] escape a h o = clash o refl
 leads-back c r [] place a h o = clash o refl
 leads-back c r (x ∷ xs) none a h o =
     let d = partly c none a in
-    let may = and-left (stepByte Nothing d 40 x) (inOrder (stepOf d x) (lowAfter d 40 x) xs) o in
-    let rest = and-right (stepByte Nothing d 40 x) (inOrder (stepOf d x) (lowAfter d 40 x) xs) o in
+    let may = both (stepByte Nothing d 40 x) (inOrder (stepOf d x) (lowAfter d 40 x) xs) o .0 in
+    let rest = both (stepByte Nothing d 40 x) (inOrder (stepOf d x) (lowAfter d 40 x) xs) o .1 in
     ⊎-elim
     (λ (e : isChar c x ≡ true). let l : 40 ≤ a = leb-true 40 a (rw e at may) in absurd (omega arith))
     (λ (e : isChar c x ≡ false). let m : (isMove x || eqb x 0x1B) ≡ true = rw e at may in
@@ -223,20 +215,20 @@ leads-back c r (x ∷ xs) none a h o =
     ⊎-elim
     (λ (z : eqb x 0x1B ≡ true). let n = ap (stepOf d) (eqb-true x 0x1B z) ∙ escapes d (partly-ready c a r h) (ap (isUser (c .users)) (sym (eqb-true x 0x1B z)) ∙ u) in
     rw z (go escape a xs n (leads-back c r xs escape a h) on))
-    (λ (z : eqb x 0x1B ≡ false). let i : any (eqb x) moves ≡ true = sym (is-move x) ∙ left-true (isMove x) (rw z at m) in
+    (λ (z : eqb x 0x1B ≡ false). let i : any (eqb x) moves ≡ true = sym (is-move x) ∙ (rw (z, or-false) at m) in
     let n = moves-to d (partly-ready c a r h) x i u in
     rw (z, i) (go none (move x a) xs n (leads-back c r xs none (move x a) (move-below x a h)) on))
     (bool (eqb x 0x1B)))
     (bool (isChar c x))
 leads-back c r (x ∷ xs) escape a h o =
-    let e = and-left (eqb x 0x48) _ o in
+    let e = both (eqb x 0x48) _ o .0 in
     let n = ap (stepOf (partly c escape a)) (eqb-true x 0x48 e) in
-    rw e (go place a xs n (leads-back c r xs place a h) (and-right (eqb x 0x48) _ o))
+    rw e (go place a xs n (leads-back c r xs place a h) (both (eqb x 0x48) _ o .1))
 leads-back c r (x ∷ xs) place a h o =
-    let e = and-left (leb x 0x27) _ o in
+    let e = both (leb x 0x27) _ o .0 in
     let z : x < 40 = (let k = leb-true x 0x27 e in omega arith) in
     let n = placed (withCursor c a) x (r .still) z in
-    rw e (go none x xs n (leads-back c r xs none x z) (and-right (leb x 0x27) _ o))
+    rw e (go none x xs n (leads-back c r xs none x z) (both (leb x 0x27) _ o .1))
 
 pub writeless : (c : Condition) (bs : List ℕ) → Ready c → inOrder c 40 bs ≡ true → leadsTo none (c .cursor) (runOf c bs .cursor) bs ≡ true
 writeless c bs r o = go none (c .cursor) bs (λ i. withPending c (r .whole i)) (leads-back c r bs none (c .cursor) (r .inside)) o

@@ -6,22 +6,8 @@ use mathlib.Core.List.{List, [], _∷_}
 use Prim.Native.Nat.{ℕ}
 use lib.Dec.{T, eqb}
 use borrow.Author.Tests.{eqb-true, eq-eqb}
+use Rattle.laws.proofs.Tests.{bool, clash}
 use Rattle.moves.specs.Moves.{any, find}
-
-pub bool : (b : Bool) → (b ≡ true) ⊎ (b ≡ false)
-bool true = inl refl
-bool false = inr refl
-
-pub clash : {A : Type 0} {b : Bool} → b ≡ true → b ≡ false → A
-clash p q = absurd (subst T (sym p ∙ q) tt)
-
-pub and-left : (a b : Bool) → (a && b) ≡ true → a ≡ true
-and-left true b e = refl
-and-left false b e = e
-
-pub and-right : (a b : Bool) → (a && b) ≡ true → b ≡ true
-and-right true b e = e
-and-right false b e = clash e refl
 
 -- a member that passes the test
 pub any-at : (f : ℕ → Bool) (xs : List ℕ) (b : ℕ) → any (eqb b) xs ≡ true → f b ≡ true → any f xs ≡ true

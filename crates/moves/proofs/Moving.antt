@@ -7,10 +7,11 @@ use native.Mathlib.Omega.{arith}
 use lib.Dec.{eqb, ltb}
 use lib.ListN.{length}
 use borrow.Author.Tests.{eqb-true, eq-eqb, ltb-true, ltb-false}
+use Rattle.laws.proofs.Tests.{bool, clash}
 use Rattle.row.specs.Row.{lineStart}
 use Rattle.moves.specs.Moves.{any, find, left, next, down, moves, move, near1, near2, rank, dist}
 use Rattle.moves.specs.Ways.{leaves, firstByte, pathOf, path}
-use Rattle.moves.proofs.Lists.{bool, clash, any-at, find-at, find-in, find-none}
+use Rattle.moves.proofs.Lists.{any-at, find-at, find-in, find-none}
 
 -- how far one step can bring us nearer
 rank-step : (e n1 n2 e′ n1′ n2′ : Bool) → (e′ ≡ true → n1 ≡ true) → (n1′ ≡ true → n2 ≡ true) → rank e n1 n2 ≤ 1 + rank e′ n1′ n2′

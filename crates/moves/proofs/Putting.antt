@@ -10,9 +10,9 @@ use lib.Dec.{eqb}
 use lib.ListN.{length, set, length-set}
 use lib.Seq.{sets}
 use borrow.Author.Tests.{eq-eqb, ne-eqb}
+use Rattle.laws.proofs.Tests.{clash}
 use Rattle.moves.specs.Moves.{move, dist}
 use Rattle.moves.specs.Ways.{path, pathOf, firstByte}
-use Rattle.moves.proofs.Lists.{clash}
 use Rattle.moves.proofs.Moving.{first-byte, move-below, length-path, dist-most}
 
 -- the path's first byte, and what is left

@@ -6,9 +6,9 @@ use Prim.Native.Nat.{ℕ, zero, suc, _+_, _≤_, _<_}
 use native.Mathlib.Omega.{arith}
 use lib.Dec.{eqb}
 use borrow.Author.Tests.{lt-ltb, eqb-true, eqb-false}
+use Rattle.laws.proofs.Tests.{bool}
 use Rattle.moves.specs.Moves.{any, moves, move, dist, fewestOf, leastUpTo, least, Ruled}
 use Rattle.moves.specs.Ways.{firstByte}
-use Rattle.moves.proofs.Lists.{bool}
 use Rattle.moves.proofs.Moving.{dist-step, dist-most, dist-self, dist-zero, first-byte, each-move, move-below}
 
 pub fewest-is : (a b : ℕ) → a < 40 → b < 40 → fewestOf a b ≡ dist a b

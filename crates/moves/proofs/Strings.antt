@@ -8,9 +8,9 @@ use native.Mathlib.Omega.{arith}
 use lib.Dec.{eqb, ltb, leb}
 use lib.ListN.{length}
 use borrow.Author.Tests.{eqb-true, eqb-false, eq-eqb, leb-true, le-leb, lt-ltb}
+use Rattle.laws.proofs.Tests.{bool, clash, both}
 use Rattle.moves.specs.Moves.{any, find, moves, move, dist}
 use Rattle.moves.specs.Ways.{leaves, firstByte, pathOf, path, Half, none, escape, place, leadsTo, atMost, Shortest}
-use Rattle.moves.proofs.Lists.{bool, clash, and-left, and-right}
 use Rattle.moves.proofs.Moving.{dist-step, dist-most, dist-self, dist-zero, first-byte, each-move, length-path}
 
 abbrev sent : Half → ℕ
@@ -27,9 +27,9 @@ move-fewest [] place a b h = clash h refl
 move-fewest (x ∷ xs) none a b h =
     ⊎-elim (λ (e : eqb x 0x1B ≡ true). omega (arith, move-fewest xs escape a b (rw e at h)))
     (λ (e : eqb x 0x1B ≡ false). let o = rw e at h in
-    omega (arith, dist-step x a b (and-left (any (eqb x) moves) _ o), move-fewest xs none (move x a) b (and-right (any (eqb x) moves) _ o)))
+    omega (arith, dist-step x a b (both (any (eqb x) moves) _ o .0), move-fewest xs none (move x a) b (both (any (eqb x) moves) _ o .1)))
     (bool (eqb x 0x1B))
-move-fewest (x ∷ xs) escape a b h = omega (arith, move-fewest xs place a b (and-right (eqb x 0x48) _ h))
+move-fewest (x ∷ xs) escape a b h = omega (arith, move-fewest xs place a b (both (eqb x 0x48) _ h .1))
 move-fewest (x ∷ xs) place a b h = omega (arith, dist-most a b)
 
 -- the first that passes a test, in a rising list, is the least
@@ -44,17 +44,17 @@ rising (y ∷ ys) = over y ys && rising ys
 over-at : (y x : ℕ) (xs : List ℕ) → over y xs ≡ true → any (eqb x) xs ≡ true → y ≤ x
 over-at y x [] o m = clash m refl
 over-at y x (z ∷ zs) o m =
-    ⊎-elim (λ (e : eqb x z ≡ true). omega (arith, eqb-true x z e, leb-true y z (and-left (leb y z) _ o)))
-    (λ (e : eqb x z ≡ false). over-at y x zs (and-right (leb y z) _ o) (rw e at m))
+    ⊎-elim (λ (e : eqb x z ≡ true). omega (arith, eqb-true x z e, leb-true y z (both (leb y z) _ o .0)))
+    (λ (e : eqb x z ≡ false). over-at y x zs (both (leb y z) _ o .1) (rw e at m))
     (bool (eqb x z))
 
 find-least : (f : ℕ → Bool) (xs : List ℕ) (d x : ℕ) → rising xs ≡ true → any (eqb x) xs ≡ true → f x ≡ true → find f xs d ≤ x
 find-least f [] d x r m h = clash m refl
 find-least f (y ∷ ys) d x r m h =
     ⊎-elim (λ (e : f y ≡ true). rw e
-    (⊎-elim (λ (z : eqb x y ≡ true). omega (arith, eqb-true x y z)) (λ (z : eqb x y ≡ false). over-at y x ys (and-left (over y ys) _ r) (rw z at m)) (bool (eqb x y))))
+    (⊎-elim (λ (z : eqb x y ≡ true). omega (arith, eqb-true x y z)) (λ (z : eqb x y ≡ false). over-at y x ys (both (over y ys) _ r .0) (rw z at m)) (bool (eqb x y))))
     (λ (e : f y ≡ false). rw e
-    (⊎-elim (λ (z : eqb x y ≡ true). clash h (ap f (eqb-true x y z) ∙ e)) (λ (z : eqb x y ≡ false). find-least f ys d x (and-right (over y ys) _ r) (rw z at m) h) (bool (eqb x y))))
+    (⊎-elim (λ (z : eqb x y ≡ true). clash h (ap f (eqb-true x y z) ∙ e)) (λ (z : eqb x y ≡ false). find-least f ys d x (both (over y ys) _ r .1) (rw z at m) h) (bool (eqb x y))))
     (bool (f y))
 
 below-esc : (m : ℕ) → any (eqb m) moves ≡ true → m < 0x1B
@@ -72,8 +72,8 @@ unfolding leadsTo
 only-jump a b x [] e l h = absurd (omega arith)
 only-jump a b x (y ∷ []) e l h = absurd (omega arith)
 only-jump a b x (y ∷ z ∷ []) e l h =
-    same-head 0x1B x (0x48 ∷ b ∷ []) (y ∷ z ∷ []) (sym e) (same-head 0x48 y (b ∷ []) (z ∷ []) (sym (eqb-true y 0x48 (and-left (eqb y 0x48) _ h)))
-    (same-head b z [] [] (sym (eqb-true z b (and-right (leb z 0x27) _ (and-right (eqb y 0x48) _ h)))) refl))
+    same-head 0x1B x (0x48 ∷ b ∷ []) (y ∷ z ∷ []) (sym e) (same-head 0x48 y (b ∷ []) (z ∷ []) (sym (eqb-true y 0x48 (both (eqb y 0x48) _ h .0)))
+    (same-head b z [] [] (sym (eqb-true z b (both (leb z 0x27) _ (both (eqb y 0x48) _ h .1) .1))) refl))
 only-jump a b x (y ∷ z ∷ w ∷ ws) e l h = absurd (omega arith)
 
 leaves-at : (n a b x : ℕ) → dist (move x a) b ≡ n → leaves n a b x ≡ true
@@ -92,8 +92,8 @@ smallest (suc n) a b (x ∷ xs) d h l =
     (first-byte n a b d))
     (λ (e : eqb x 0x1B ≡ false).
     let o = rw e at h in
-    let i : any (eqb x) moves ≡ true = and-left (any (eqb x) moves) _ o in
-    let t : leadsTo none (move x a) b xs ≡ true = and-right (any (eqb x) moves) _ o in
+    let i : any (eqb x) moves ≡ true = both (any (eqb x) moves) _ o .0 in
+    let t : leadsTo none (move x a) b xs ≡ true = both (any (eqb x) moves) _ o .1 in
     let c : dist (move x a) b ≡ n = omega (arith, dist-step x a b i, move-fewest xs none (move x a) b t) in
     let v : firstByte n a b ≤ x = find-least (leaves n a b) moves 0x1B x refl i (leaves-at n a b x c) in
     ⊎-elim

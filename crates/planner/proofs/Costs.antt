@@ -10,10 +10,10 @@ use native.Mathlib.Omega.{arith}
 use lib.Dec.{eqb}
 use lib.ListN.{length, length-append, getD}
 use borrow.Author.Tests.{eqb-true, eqb-false, eq-eqb, ne-eqb, lt-ltb}
+use Rattle.laws.proofs.Tests.{bool}
 use Rattle.moves.specs.Moves.{next, move, dist}
 use Rattle.planner.specs.Plan.{flagged}
 use Rattle.planner.specs.Fonts.{switch, fontsPlanOf}
-use Rattle.moves.proofs.Lists.{bool}
 use Rattle.moves.proofs.Moving.{dist-step, dist-most, dist-self, length-path}
 
 -- Flagged places ---------------------------------------------------------------------------------------------------------------

@@ -7,13 +7,13 @@ use Prim.Native.Nat.{ℕ, zero, suc, _+_, _≤_, _<_}
 use native.Mathlib.Omega.{arith}
 use lib.Dec.{eqb}
 use lib.ListN.{length, getD, replicate, length-replicate, getD-replicate}
+use Rattle.laws.proofs.Tests.{bool}
 use Rattle.condition.specs.declared.Condition.{Condition}
 use Rattle.condition.specs.Set.{withCells, withCursor, withPending, withFont, withEuro}
 use Rattle.condition.specs.Bytes.{isChar, runOf}
 use Rattle.condition.specs.Steps.{wrong}
 use Rattle.moves.specs.Moves.{any, moves, next}
 use Rattle.moves.specs.Ways.{path}
-use Rattle.moves.proofs.Lists.{bool}
 use Rattle.moves.proofs.Interpreter.{Ready}
 use Rattle.planner.specs.Plan.{flagged, planOf, plan, Pictured, Delivers}
 use Rattle.planner.specs.Fonts.{wrongFor, fontsPlanOf, fontsPlan, picturedIn, FontsDelivers}

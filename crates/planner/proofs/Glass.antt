@@ -9,8 +9,8 @@ use Prim.Native.Nat.{ℕ, suc, _≤_}
 use lib.Dec.{eqb, leb}
 use lib.ListN.{getD, set}
 use borrow.Author.Tests.{eqb-true, leb-true}
+use Rattle.laws.proofs.Tests.{bool, both}
 use Rattle.moves.specs.Moves.{any, moves, move, next}
-use Rattle.moves.proofs.Lists.{bool, and-left, and-right}
 
 -- how much of 1Bh 48h p or of 18h 1Ah has come
 pub data Part : Type 0 where
@@ -97,11 +97,11 @@ module _ (switching mark : Bool) (chars : ℕ → Bool) where
       (⊎-elim (λ (m : any (eqb b) moves ≡ true). rw m (move e m))
       (λ (m : any (eqb b) moves ≡ false).
       let o = rw (e, z, m) at a in
-      let s : switching ≡ true = and-left switching _ o in
+      let s : switching ≡ true = both switching _ o .0 in
       rw m
       (⊎-elim (λ (y : eqb b 0x19 ≡ true). rw y (on e s (eqb-true b 0x19 y)))
       (λ (y : eqb b 0x19 ≡ false).
-      let t : b ≡ 0x18 = eqb-true b 0x18 (rw (y, or-false) at (and-right switching _ o)) in
+      let t : b ≡ 0x18 = eqb-true b 0x18 (rw (y, or-false) at (both switching _ o .1)) in
       rw y (⊎-elim (λ (k : mark ≡ true). rw k (off1 e s t k)) (λ (k : mark ≡ false). rw k (off0 e s t k)) (bool mark)))
       (bool (eqb b 0x19))))
       (bool (any (eqb b) moves))))

@@ -9,12 +9,12 @@ use lib.Dec.{eqb, leb}
 use lib.ListN.{length, getD, set, length-set}
 use lib.Seq.{getD-set-same, getD-set-other, ext-getD}
 use borrow.Author.Tests.{eqb-true, eqb-false, eq-eqb, leb-true, le-leb, not-false}
+use Rattle.laws.proofs.Tests.{bool, clash, both}
 use Rattle.moves.specs.Moves.{any, next, moves, move, dist}
 use Rattle.moves.specs.Ways.{path, pathOf, firstByte}
 use Rattle.planner.proofs.Glass.{Part, none, escape, place, back, Glass, glass, wrongIn, stepAt, run, allowed, lowAt, whole, ordered, by-kind}
 use Rattle.planner.specs.Plan.{flagged}
 use Rattle.planner.specs.Fonts.{switch, fontsPlanOf}
-use Rattle.moves.proofs.Lists.{bool, clash, and-left, and-right}
 use Rattle.moves.proofs.Moving.{dist-step, dist-most, dist-self, dist-zero, first-byte, next-below, move-below}
 use Rattle.planner.proofs.Costs.{total, cost, flagged-yes, flagged-no, flagged-same, flagged-none, switch-none, switch-on, switch-back, switch-two, backLength, cost-step, cost-switch, put-total, length-plan}
 
@@ -34,11 +34,11 @@ up P i h z j l = ⊎-elim (λ e. subst P (sym (eqb-true j i e)) z) (λ e. h j (o
 -- a cell that is not wrong has the wanted code and the wanted font
 right-code : (font : ℕ → ℕ) (ws cs fs : List ℕ) (i : ℕ) → wrongIn font ws cs fs i ≡ false → getD cs i 0 ≡ getD ws i 0
 unfolding wrongIn
-right-code font ws cs fs i h = eqb-true _ _ (and-left (eqb (getD cs i 0) (getD ws i 0)) (eqb (getD fs i 0) (font i)) (not-false _ h))
+right-code font ws cs fs i h = eqb-true _ _ (both (eqb (getD cs i 0) (getD ws i 0)) (eqb (getD fs i 0) (font i)) (not-false _ h) .0)
 
 right-font : (font : ℕ → ℕ) (ws cs fs : List ℕ) (i : ℕ) → wrongIn font ws cs fs i ≡ false → getD fs i 0 ≡ font i
 unfolding wrongIn
-right-font font ws cs fs i h = eqb-true _ _ (and-right (eqb (getD cs i 0) (getD ws i 0)) (eqb (getD fs i 0) (font i)) (not-false _ h))
+right-font font ws cs fs i h = eqb-true _ _ (both (eqb (getD cs i 0) (getD ws i 0)) (eqb (getD fs i 0) (font i)) (not-false _ h) .1)
 
 -- and the other way round
 right-wrong : (font : ℕ → ℕ) (ws cs fs : List ℕ) (i : ℕ) → getD cs i 0 ≡ getD ws i 0 → getD fs i 0 ≡ font i → wrongIn font ws cs fs i ≡ false
@@ -93,7 +93,7 @@ module _ (switching mark : Bool) (chars : ℕ → Bool) (font : ℕ → ℕ) (ws
   fewest (b ∷ bs) none p lo f cs fs lc lf hp o d =
       by-kind switching mark chars
       (λ g l. ordered switching mark chars g l bs ≡ true → Done font ws q (run switching mark chars g bs) → Paid none p lo f cs fs (b ∷ bs))
-      p lo f cs fs b (and-left (allowed switching mark chars none p lo b) _ o)
+      p lo f cs fs b (both (allowed switching mark chars none p lo b) _ o .0)
       (λ e l o d. let r = fewest bs none (next p) (suc p) f (set cs p b) (set fs p f) (length-set cs p b ∙ lc) (length-set fs p f ∙ lf) (next-below p hp) o d in
       record {
         below = λ i m h. sym (wrong-other font ws cs fs p b f i (omega arith)) ∙ r .below i (omega arith) h;
@@ -109,16 +109,16 @@ module _ (switching mark : Bool) (chars : ℕ → Bool) (font : ℕ → ℕ) (ws
       record { below = r .below; enough = omega (arith, r .enough) })
       (λ e s y k o d. let r = fewest bs none p lo 0 cs fs lc lf hp o d in
       record { below = r .below; enough = omega (arith, r .enough, cost-switch mark font 1 q p f 0 (wrongsIn font ws cs fs) (back-one k f)) })
-      (and-right (allowed switching mark chars none p lo b) _ o) d
+      (both (allowed switching mark chars none p lo b) _ o .1) d
   fewest (b ∷ bs) escape p lo f cs fs lc lf hp o d =
-      let r = fewest bs place p lo f cs fs lc lf hp (and-right (eqb b 0x48) _ o) d in
+      let r = fewest bs place p lo f cs fs lc lf hp (both (eqb b 0x48) _ o .1) d in
       record { below = r .below; enough = omega (arith, r .enough) }
   fewest (b ∷ bs) place p lo f cs fs lc lf hp o d =
-      let l : b ≤ 0x27 = leb-true b 0x27 (and-left (leb b 0x27) _ o) in
-      let r = fewest bs none b lo f cs fs lc lf (omega arith) (and-right (leb b 0x27) _ o) d in
+      let l : b ≤ 0x27 = leb-true b 0x27 (both (leb b 0x27) _ o .0) in
+      let r = fewest bs none b lo f cs fs lc lf (omega arith) (both (leb b 0x27) _ o .1) d in
       record { below = r .below; enough = omega (arith, r .enough, cost-step mark font 3 q p b f (wrongsIn font ws cs fs) (λ x. omega (arith, dist-most p x))) }
   fewest (b ∷ bs) back p lo f cs fs lc lf hp o d =
-      let r = fewest bs none p lo 0 cs fs lc lf hp (and-right (not (chars b) && eqb b 0x1A) _ o) d in
+      let r = fewest bs none p lo 0 cs fs lc lf hp (both (not (chars b) && eqb b 0x1A) _ o .1) d in
       record { below = r .below; enough = omega (arith, r .enough, cost-switch mark font 2 q p f 0 (wrongsIn font ws cs fs) (switch-two mark f)) }
 
 -- Delivery ---------------------------------------------------------------------------------------------------------------------

@@ -9,14 +9,15 @@ use lib.Dec.{eqb, ltb, leb}
 use lib.ListN.{length, getD, replicate}
 use lib.Seq.{take-append-seam}
 use borrow.Author.Tests.{eqb-true, ne-eqb, ltb-false, leb-true, le-leb, not-false}
+use Rattle.laws.proofs.Tests.{bool, clash, both, neither, passed}
 use Rattle.users.specs.declared.Users.{Users}
 use Rattle.users.specs.Users.{isUser}
 use Rattle.condition.specs.declared.Condition.{Condition}
 use Rattle.condition.specs.Condition.{idle, wellFormed, allUpTo}
 use Rattle.condition.specs.Bytes.{isChar}
 use Rattle.condition.proofs.Good.{good}
+use Rattle.condition.proofs.Ranges.{up-to-at}
 use Rattle.moves.specs.Moves.{any, moves}
-use Rattle.moves.proofs.Lists.{bool, clash, and-left, and-right}
 use Rattle.moves.proofs.Moving.{each-move}
 use Rattle.moves.proofs.Interpreter.{ready}
 use Rattle.planner.specs.declared.Planned.{Planned}
@@ -24,15 +25,6 @@ use Rattle.planner.specs.Plan.{atStart, plan, Delivers}
 use Rattle.planner.specs.Fonts.{fontsPlan, FontsDelivers}
 use Rattle.planner.specs.Answer.{onMove, onSwitch, lacks, someLacks, refusalBy, planRefusal, fontsRefusal, bytesBy, Promise}
 use Rattle.planner.proofs.Demand.{Plannable, Switchable, plan-most, delivers, fonts-most, fonts-deliver, one-font}
-
--- a refusal that is not given, and what comes after it
-passed : (t : Bool) (n r : ℕ) → cond t (suc n) r ≡ 0 → (t ≡ false) × (r ≡ 0)
-passed true n r e = absurd (omega arith)
-passed false n r e = (refl, e)
-
-neither : (s t : Bool) → (s || t) ≡ false → (s ≡ false) × (t ≡ false)
-neither true t e = clash refl e
-neither false t e = (refl, e)
 
 -- no refusal is given
 record Clear (long ranged blocked short : Bool) (c : Condition) (wanted : List ℕ) : Type 0 where
@@ -58,8 +50,8 @@ clear long ranged blocked short c wanted e =
     let g = not-false _ (p3 .0) in
     record {
       lengths = not-false _ (p1 .0);
-      formed = and-left (wellFormed c) ranged g;
-      in-range = and-right (wellFormed c) ranged g;
+      formed = both (wellFormed c) ranged g .0;
+      in-range = both (wellFormed c) ranged g .1;
       nothing-half = not-false _ (p6 .0);
       mode-1 = eqb-true _ _ (not-false _ (p7 .0));
       unblocked = p8 .0;
@@ -152,12 +144,6 @@ accepted c wanted asked room e =
     (accepted-by _ _ _ _ c wanted asked k (eqb-true _ _ (k .lengths)) (k .in-range) (k .unblocked), ltb-false room 44 (k .room))
 
 -- for two fonts: 18h, 19h and 1Ah are steps, and the fonts are 0 or 1
-fonts-up : (n : ℕ) (fs : List ℕ) → allUpTo n fs ≡ true → (i : ℕ) → getD fs i 0 ≤ n
-unfolding allUpTo
-fonts-up n [] e i = omega arith
-fonts-up n (x ∷ xs) e zero = leb-true x n (and-left (leb x n) (allUpTo n xs) e)
-fonts-up n (x ∷ xs) e (suc i) = fonts-up n xs (and-right (leb x n) (allUpTo n xs) e) i
-
 no-char : (c : Condition) (b : ℕ) → leb 0x20 b ≡ false → isUser (c .users) b ≡ false → isChar c b ≡ false
 unfolding isChar
 no-char c b l u = rw (u, l)
@@ -171,16 +157,16 @@ pub fonts-accepted : (c : Condition) (wanted fonts : List ℕ) (asked room : ℕ
 unfolding fontsRefusal onSwitch
 fonts-accepted c wanted fonts asked room e =
     let k = clear (eqb (length wanted) 40 && eqb (length fonts) 40) (leb asked 39 && allUpTo 1 fonts) (onMove (c .users) || onSwitch (c .users)) (ltb room 104) c wanted e in
-    let l = eqb-true _ _ (and-left (eqb (length wanted) 40) _ (k .lengths)) in
-    let m : length fonts ≡ 40 = eqb-true _ _ (and-right (eqb (length wanted) 40) _ (k .lengths)) in
+    let l = eqb-true _ _ (both (eqb (length wanted) 40) _ (k .lengths) .0) in
+    let m : length fonts ≡ 40 = eqb-true _ _ (both (eqb (length wanted) 40) _ (k .lengths) .1) in
     let u = neither (onMove (c .users)) (onSwitch (c .users)) (k .unblocked) in
     let n2 = neither _ (isUser (c .users) 0x1A) (u .1) in
     let n1 = neither (isUser (c .users) 0x18) (isUser (c .users) 0x19) (n2 .0) in (
       record {
-        codes = accepted-by _ _ _ _ c wanted asked k l (and-left (leb asked 39) _ (k .in-range)) (u .0);
+        codes = accepted-by _ _ _ _ c wanted asked k l (both (leb asked 39) _ (k .in-range) .0) (u .0);
         switchable = record {
           wanted-fonts-40 = m;
-          wanted-fonts-1 = fonts-up 1 fonts (and-right (leb asked 39) _ (k .in-range));
+          wanted-fonts-1 = up-to-at 1 fonts (both (leb asked 39) _ (k .in-range) .1);
           selected-1 = good c (k .formed) .font-1;
           free18 = no-char c 0x18 refl (n1 .0);
           free19 = no-char c 0x19 refl (n1 .1);

@@ -1,12 +1,13 @@
 -- The glass is the module itself, where that is in mode 1 and reads the planner's steps.
 use mathlib.Core.Path.{_≡_, refl, sym, ap, _∙_}
-use mathlib.Core.Bool.{Bool, true, false, cond, not, _&&_, _||_, or-false}
+use mathlib.Core.Bool.{Bool, true, false, cond, not, _&&_, _||_, or-false, and-not-self}
 use mathlib.Core.List.{List, [], _∷_}
 use Prim.Native.Nat.{ℕ, _<_}
 use native.Mathlib.Numerals.{add-one}
 use native.Mathlib.Omega.{arith}
 use lib.Dec.{eqb, leb}
 use borrow.Author.Tests.{eqb-true, eq-eqb, leb-true}
+use Rattle.laws.proofs.Tests.{clash, both}
 use Rattle.users.specs.Users.{isUser}
 use Rattle.condition.specs.declared.Condition.{Condition}
 use Rattle.condition.specs.declared.Pending.{Pending}
@@ -17,7 +18,6 @@ use Rattle.condition.specs.Bytes as B
 use Rattle.condition.specs.Bytes.{isChar, controlOf, escapeOf, stepOf, runOf}
 use Rattle.condition.specs.Steps.{stepByte, lowAfter, inOrder, readingOrder}
 use Rattle.moves.specs.Moves.{any, moves}
-use Rattle.moves.proofs.Lists.{clash, and-left, and-right}
 use Rattle.moves.proofs.Moving.{next-below, move-below}
 use Rattle.moves.proofs.Interpreter.{Ready, no-user, moves-to, escapes, writes, placed, is-move}
 use Rattle.planner.specs.Fonts.{owed, fontByte, inFontOrder, fontOrder}
@@ -104,7 +104,7 @@ module _ (switching : Bool) (c : Condition) (r : Ready c) where
       let d = embed c (glass none p 0 cs fs) in
       let e : isChar c b ≡ false = no-char (isChar c b) _ a in
       ap (λ (t : Bool). stepOf (withEuro d t) b) refl
-      ∙ rw e (ap (λ (x : ℕ). controlOf (withEuro d false) x) (eqb-true b 0x1A (and-right (not (isChar c b)) _ a)) ∙ (λ i. withEuro d (sym (m refl .1) i)))
+      ∙ rw e (ap (λ (x : ℕ). controlOf (withEuro d false) x) (eqb-true b 0x1A (both (not (isChar c b)) _ a .1)) ∙ (λ i. withEuro d (sym (m refl .1) i)))
 
   -- and the cursor stays in its places
   inside : (k : Part) (p lo f : ℕ) (cs fs : List ℕ) (b : ℕ) → p < 40 → may k p lo b ≡ true
@@ -129,11 +129,11 @@ module _ (switching : Bool) (c : Condition) (r : Ready c) where
   unfolding runOf
   runs [] k p lo f cs fs h m o = refl
   runs (b ∷ bs) k p lo f cs fs h m o =
-      let a = and-left (may k p lo b) _ o in
+      let a = both (may k p lo b) _ o .0 in
       let g = goes k p f cs fs b in
       let n = inside k p lo f cs fs b h a in
       ap (λ (d : Condition). runOf d bs) (same k p lo f cs fs b h m a)
-      ∙ runs bs (g .part) (g .cursor) (low k p lo b) (g .font) (g .codes) (g .fonts) (n .0) (n .1) (and-right (may k p lo b) _ o)
+      ∙ runs bs (g .part) (g .cursor) (low k p lo b) (g .font) (g .codes) (g .fonts) (n .0) (n .1) (both (may k p lo b) _ o .1)
 
   -- the lowest cell that may be written after a byte is the same
   next-low : (k : Part) (p lo f : ℕ) (cs fs : List ℕ) (b : ℕ) → may k p lo b ≡ true → lowAfter (embed c (glass k p f cs fs)) lo b ≡ low k p lo b
@@ -206,15 +206,11 @@ module _ (c : Condition) (r : Ready c) where
 
   -- The strings of the larger set of steps ---------------------------------------------------------------------------------------
 
-  not-owed : (t : Bool) → (t && not t) ≡ false
-  not-owed true = refl
-  not-owed false = refl
-
   font-byte : (k : Part) (p lo f : ℕ) (cs fs : List ℕ) (b : ℕ) → Fits true c r k
       → fontByte (c .euro) (embed c (glass k p f cs fs)) lo b ≡ allowed true (c .euro) (isChar c) k p lo b
   unfolding fontByte owed stepByte allowed isChar
   font-byte none p lo f cs fs b m =
-      rw (not-owed (c .euro), is-move b) (by-char (isChar c b) (leb lo p) (any (eqb b) moves) (eqb b 0x1B) (eqb b 0x18 || eqb b 0x19))
+      rw (and-not-self (c .euro), is-move b) (by-char (isChar c b) (leb lo p) (any (eqb b) moves) (eqb b 0x1B) (eqb b 0x18 || eqb b 0x19))
     where
       by-char : (t l m s x : Bool) → (cond t l (m || s) || (not t && x)) ≡ cond t l (cond s true (cond m true x))
       by-char true true m s x = refl
@@ -223,13 +219,13 @@ module _ (c : Condition) (r : Ready c) where
       by-char false l true false x = refl
       by-char false l false true x = refl
       by-char false l false false x = refl
-  font-byte escape p lo f cs fs b m = rw (not-owed (c .euro)) (or-false (eqb b 0x48))
-  font-byte place p lo f cs fs b m = rw (not-owed (c .euro)) (or-false (leb b 0x27))
+  font-byte escape p lo f cs fs b m = rw (and-not-self (c .euro)) (or-false (eqb b 0x48))
+  font-byte place p lo f cs fs b m = rw (and-not-self (c .euro)) (or-false (leb b 0x27))
   font-byte back p lo f cs fs b m = rw (m refl .1)
 
   font-ends : (k : Part) (p f : ℕ) (cs fs : List ℕ) → Fits true c r k → (idle (pendingAt k) && not (owed (c .euro) (embed c (glass k p f cs fs)))) ≡ whole k
   unfolding whole owed
-  font-ends none p f cs fs m = rw (not-owed (c .euro))
+  font-ends none p f cs fs m = rw (and-not-self (c .euro))
   font-ends escape p f cs fs m = refl
   font-ends place p f cs fs m = refl
   font-ends back p f cs fs m = rw (m refl .1)
@@ -252,4 +248,4 @@ whole-is back e = clash e refl
 pub ends : (switching mark : Bool) (chars : ℕ → Bool) (bs : List ℕ) (g : Glass) (lo : ℕ) → ordered switching mark chars g lo bs ≡ true → run switching mark chars g bs .part ≡ none
 ends switching mark chars [] g lo o = whole-is (g .part) o
 ends switching mark chars (b ∷ bs) g lo o =
-    ends switching mark chars bs (step switching mark chars g b) (lowAt switching mark chars (g .part) (g .cursor) lo b) (and-right (allowed switching mark chars (g .part) (g .cursor) lo b) _ o)
+    ends switching mark chars bs (step switching mark chars g b) (lowAt switching mark chars (g .part) (g .cursor) lo b) (both (allowed switching mark chars (g .part) (g .cursor) lo b) _ o .1)

@@ -1,7 +1,7 @@
 -- What a pull, a fill and a copy make of the places, turn by turn and in the end.
 use Prim.Native.Nat.{ℕ, suc, _+_, _-_, _≤_, _<_, min}
 use mathlib.Core.Path.{_≡_, refl, ap, sym, _∙_}
-use mathlib.Core.List.{List, _++_, append-assoc}
+use mathlib.Core.List.{List, _++_, append-assoc, append-nil}
 use native.Mathlib.Omega.{arith}
 use native.Mathlib.Numerals.{add-one}
 use lib.ListN.{length, getD, take, drop, set, replicate, length-drop, replicate-append-replicate, drop-of-length-le}
@@ -105,3 +105,11 @@ laid-law d s n e = go (leb (length d) (length s)) refl
         let l : length s ≤ length d = omega (arith, leb-false (length d) (length s) h) in
         let k : n ≡ length s = omega arith in
         rw (k, take-all (length d) s l, take-all (length s) s (omega arith))
+
+-- as many bytes as there is room for
+pub filled : (q d : List ℕ) (n : ℕ) → length q ≡ n → length d ≡ n → laid q d ≡ q
+unfolding laid
+filled q d n hq hd =
+    let a : length q ≤ length d = omega arith in
+    let b : length d ≤ length q = omega arith in
+    rw (take-all (length d) q a, drop-of-length-le d b) (append-nil q)

@@ -8,8 +8,7 @@ use native.Mathlib.Omega.{arith}
 use lib.Dec.{eqb, leb}
 use lib.ListN.{length, take}
 use borrow.Author.Tests.{eqb-true, eqb-false, eq-eqb, ne-eqb, leb-true}
-use Rattle.moves.proofs.Lists.{bool}
-use Rattle.users.proofs.Places.{by-test}
+use Rattle.laws.proofs.Tests.{by-test, zero-or}
 use Rattle.condition.specs.declared.Condition.{Condition}
 use Rattle.condition.specs.declared.Outcome.{Outcome}
 use Rattle.condition.specs.Condition.{wellFormed, powerUp, powerUpAnswer}
@@ -22,7 +21,7 @@ use Rattle.block.specs.Reading.{readRefusal, damageOf}
 use Rattle.block.specs.Writing.{writeRefusal, writeAnswer, writeOut, WritePromise}
 use Rattle.block.specs.declared.Written.{Written}
 use Rattle.row.specs.Row.{laid}
-use Rattle.layout.proofs.Parts.{filled}
+use Rattle.row.proofs.Laws.{filled}
 use Rattle.block.proofs.Sealing.{put-whole}
 use Rattle.block.proofs.Damaged.{read-by, whole-length, whole-unpacked}
 use Rattle.block.proofs.RoundTrip.{refusal-of, reread}
@@ -186,9 +185,6 @@ module _ (b : List ℕ) (n : ℕ) (bytes : List ℕ) (For : List ℕ → Type 0)
         let ek : k ≡ 256 + n = e ∙ rw (ne-eqb (r .refusal) 0 (λ (h : r .refusal ≡ 0). z (sym ra ∙ h)), ra) in
         record { answer = rw (ne-eqb n 0 z) ek; buffer = q .output; delivers = λ l. absurd (omega arith) })
         (zero-or n))
-      where
-        zero-or : (n : ℕ) → (n ≡ 0) ⊎ (n ≡ 0 → ⊥)
-        zero-or n = ⊎-elim (λ (e : eqb n 0 ≡ true). inl (eqb-true n 0 e)) (λ (e : eqb n 0 ≡ false). inr (eqb-false n 0 e)) (bool (eqb n 0))
 
 -- the planner's promise of the condition at hand, as one of the condition in the block
 module _ (b : List ℕ) (c : Condition) (e : c ≡ conditionIn b) where

@@ -9,17 +9,13 @@ use lib.ListN.{length, getD, drop, length-append, length-drop, length-set, List�
 use lib.Seq.{getD-set-same, getD-set-other, lt-length-set, getD-drop}
 use lib.Dec.{eqb, ltb}
 use borrow.Author.Tests.{eqb-true, eqb-false, ltb-true, ltb-false}
+use Rattle.laws.proofs.Tests.{by-test}
 use Rattle.row.specs.Row.{advanced}
 use Rattle.users.specs.declared.Users.{Users}
 use Rattle.users.specs.declared.Found.{Found}
 use Rattle.users.specs.declared.Found.the-variants.{Missing, At}
 use Rattle.users.specs.Users.{placeOf, limitOf, foundIn, foundOf, isFound, isUser, putOf, definedAt, defineOf}
 use Rattle.users.proofs.Laws.{place-below}
-
--- a property of either way is one of the choice, with the test known
-pub by-test {ℓ ℓ′} : {A : Type ℓ} (P : A → Type ℓ′) (t : Bool) {a b : A} → (t ≡ true → P a) → (t ≡ false → P b) → P (cond t a b)
-by-test P true f g = f refl
-by-test P false f g = g refl
 
 -- Sizes ------------------------------------------------------------------------------------------------------------------------
 

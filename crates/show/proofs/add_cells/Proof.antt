@@ -1,6 +1,6 @@
 use mathlib.Core.Path.{sym}
 use lib.Seq.{length-take-le}
-use Rattle.condition.proofs.Places.{tail-part}
+use Rattle.laws.proofs.Lists.{tail-part}
 use Rattle.lines.proofs.Laws.{both-added}
 use Rattle.show.specs.Report.{cellLines}
 use borrow.Author.Needs.{needs}

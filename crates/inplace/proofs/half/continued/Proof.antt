@@ -1,7 +1,7 @@
 use Rattle.condition.specs.Bytes.{stepAt}
 use Rattle.condition.specs.declared.Pending.the-variants.{Escape, Position, Luminance, Speed, UserCode}
 use mathlib.Core.Path.{_∙_}
-use Rattle.inplace.proofs.Ways.{half-step, data-step}
+use Rattle.inplace.proofs.Ways.{half-step, awaits-data, data-step}
 use borrow.Author.Needs.{needs}
 use Rattle.inplace.proofs.half.continued.Statement.{statement}
 use Rattle.inplace.proofs.half.continued.Tie as tie
@@ -85,7 +85,7 @@ returns-6 : tie.Need-returns-6
 returns-6 c =
     let r = c .before .before .before .before .match .rest in
     c .before .before .user-data .ensures
-    ∙ data-step _ _ (search needs) (r .0 .0 .0 .0 .1) (r .0 .0 .0 .1) (r .0 .0 .1) (r .0 .1) (r .1)
+    ∙ data-step _ _ (awaits-data _ _ _ (search needs) (r .0 .0 .0 .0 .1) (r .0 .0 .0 .1) (r .0 .0 .1) (r .0 .1) (r .1))
 
 pub continued-spec : {M : Type 1} → statement M
 continued-spec =
