@@ -128,5 +128,10 @@ fn main() {
         p.try_picture(&c, &wanted);
         p.try_all(&c, &wanted, if i % 20 < 2 { 6 } else { 5 });
     }
-    p.end("fonts", 104);
+    let least = AtLeast {
+        plans: 31_000,
+        searched: 2_400,
+        strings: 47_000_000,
+    };
+    p.end("fonts", 104, least);
 }

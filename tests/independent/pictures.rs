@@ -18,6 +18,13 @@ pub struct Pictures {
     strings: u64,
 }
 
+/// What a test of a planner must have tried: plans, small differences searched, and the strings run for them.
+pub struct AtLeast {
+    pub plans: u64,
+    pub searched: u64,
+    pub strings: u64,
+}
+
 impl Pictures {
     pub fn new(seed: u64) -> Pictures {
         Pictures {
@@ -146,8 +153,8 @@ impl Pictures {
         }
     }
 
-    /// The longest plan must be as long as this planner's can be.
-    pub fn end(mut self, name: &str, longest: usize) -> ! {
+    /// The longest plan must be as long as this planner's can be, and what was tried must not be less than stated.
+    pub fn end(mut self, name: &str, longest: usize, least: AtLeast) -> ! {
         let mean = self.total as f64 / self.report.cases as f64;
         println!("{}: longest {} bytes, mean {:.2}", name, self.longest, mean);
         println!(
@@ -157,7 +164,13 @@ impl Pictures {
         self.report.expect(self.longest == longest, || {
             format!("the longest plan should be {} bytes", longest)
         });
-        self.report.end(name, 20_000);
+        self.report.expect(self.searched >= least.searched, || {
+            format!("at least {} small differences were to be searched", least.searched)
+        });
+        self.report.expect(self.strings >= least.strings, || {
+            format!("at least {} strings were to be run", least.strings)
+        });
+        self.report.end(name, least.plans);
     }
 }
 

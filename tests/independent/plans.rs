@@ -77,5 +77,10 @@ fn main() {
         p.try_picture(&c, &wanted);
         p.try_all(&c, &wanted, if i % 20 == 0 { 6 } else { 5 });
     }
-    p.end("plans", 44);
+    let least = AtLeast {
+        plans: 29_400,
+        searched: 2_400,
+        strings: 23_000_000,
+    };
+    p.end("plans", 44, least);
 }

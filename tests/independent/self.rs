@@ -186,6 +186,7 @@ fn worked_examples(r: &mut Report) {
             format!("example {}", hex(bytes))
         });
     }
+    r.cases += 6; // those that follow
     // user characters: the fifth byte is cut; the seventeenth ends the oldest, and a redefinition none
     let (c, _) = after(examples[3].0);
     r.expect(
@@ -469,5 +470,6 @@ fn main() {
     two_fonts(&mut r, &moves);
     two_fonts_refused(&mut r, &moves);
     conditions(&mut r);
-    r.end("self", 14);
+    // the bench sheet, the sample, examples by hand, ways, plans of two fonts and their refusals, conditions
+    r.end("self", 14 + 2 + 28 + 1_603 + 2_017 + 15 + 3_000);
 }

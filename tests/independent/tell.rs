@@ -119,5 +119,5 @@ fn main() {
         s.on(&rng.bytes(length));
     }
 
-    s.end(2_500);
+    s.end(2_900);
 }
