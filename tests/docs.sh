@@ -1,11 +1,14 @@
 #!/bin/sh
 # Holds the documents against the repository; wants no compiler. Wrong is:
 # - a line of an *.md above 100 characters; table rows, fenced code and a link at the line's end aside;
+# - a line of an *.antt above 132 characters;
 # - a relative link of an *.md that leads nowhere;
 # - in docs/PROMISES.md, MODULE.md and DECISIONS.md a path in backticks that is not there, below crates/ or
 #   here, or a name behind it, `path: name, name`, that the file does not define. In a section with a line
 #   "Definitions: `path`" each name in backticks is one of that file;
 # - a place in a block that include/sign.h names and the table of docs/HOST.md does not have;
+# - in docs/PROMISES.md how many wrong programs there are of each kind, where it is not so;
+# - there, in the paragraph "Never run as compiled:", a function that a program runs, or one missing that none runs;
 # - in any file a path of somebody's machine, or a word about how the work was done.
 # shellcheck disable=SC2016,SC2086
 set -eu
@@ -35,6 +38,12 @@ long_lines() {
     on_pages '
         /^\|/ || length <= 100 { next }
         substr($0, 101) ~ / / || $NF !~ /\]\(|:\/\// { print at() ": " length($0) " columns" }' <"$work/pages"
+}
+
+long_proofs() {
+    grep '\.antt$' "$work/files" | while read -r file; do
+        tr -d '\200-\277' <"$file" | awk -v file="$file" 'length > 132 { print file ":" NR ": " length($0) " columns" }'
+    done
 }
 
 # Each link as: place target
@@ -108,12 +117,37 @@ missing_places() {
     done
 }
 
+# An edit of a contract in src/ is one of a definition: it names the logic's own signs.
+miscounted() {
+    code=0 definition=0 both=0
+    for edit in crates/*/must-fail/*.edit; do
+        defined=$(grep -cE '^file: specs/|^old: .*(⌜|⌝|≡|now \()' "$edit" || true)
+        coded=$(awk '/^file: /{ f = $2 } /^old: / && f ~ /^src\// && !/⌜|⌝|≡|now \(/ { n++ } END { print n + 0 }' "$edit")
+        if [ "$defined" -eq 0 ]; then
+            code=$((code + 1))
+        elif [ "$coded" -eq 0 ]; then
+            definition=$((definition + 1))
+        else
+            both=$((both + 1))
+        fi
+    done
+    said="$((code + definition + both)) edits: $code of the code alone, $definition of a definition alone, $both of both"
+    grep -q "$said" docs/PROMISES.md || echo "docs/PROMISES.md: it should say \"$said\""
+}
+
+misrun() {
+    awk -f tests/unrun.awk crates/*/src/*.rt | sort >"$work/unrun"
+    sed -n '/^Never run as compiled:/,/^$/p' docs/PROMISES.md | grep -o '`[a-z_]*::[a-z_]*`' | tr -d '`' | sort >"$work/listed"
+    comm -3 "$work/unrun" "$work/listed" | sed 's/^\t\(.*\)/docs\/PROMISES.md: \1 is run/; t; s/\(.*\)/docs\/PROMISES.md: no program runs \1, and it is not listed/'
+    [ -s "$work/listed" ] || echo "docs/PROMISES.md: no function is listed that is never run"
+}
+
 # The brackets keep this line from finding itself.
 strangers() { xargs grep -nE '/[o]pt/|/[w]ork/|/[r]oot/[A-Za-z]|[s]ubagent' /dev/null <"$work/files" || true; }
 
 links >"$work/links"
 references >"$work/references"
-{ long_lines; dead_links; dead_references; missing_places; strangers; } >"$work/wrong"
+{ long_lines; long_proofs; dead_links; dead_references; missing_places; miscounted; misrun; strangers; } >"$work/wrong"
 cat "$work/wrong"
 count() { grep -c . "$work/$1" || true; }
 echo "docs: $(count pages) pages, $(count links) links, $(count references) references, $(count wrong) wrong"
