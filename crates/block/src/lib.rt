@@ -3,7 +3,7 @@ ghost use mathlib.Core.Path.{_≡_};
 ghost use Prim.Native.Nat.{_≤_};
 ghost use mathlib.Core.Bool.{cond};
 ghost use lib.ListN.{length};
-ghost use Rattle.block.specs.Block.{weigh, checkOf, blockOf, putOver};
+ghost use Rattle.block.specs.Block.{weigh, checkOf, putOver};
 ghost use Rattle.block.specs.Reading.{intact, damageOf, refusedOf, ReadPromise};
 ghost use Rattle.block.specs.Writing.{WritePromise};
 ghost use Rattle.block.specs.Tidy.{kindGood, restZero, tidy};
@@ -89,15 +89,6 @@ pub fn put(c: Condition, out: &mut [u8])
     row::clear(&mut out[layout::PACKED..CHECK], 0);
     out[CHECK] = (sum % 256) as u8;
     out[CHECK + 1] = (sum / 256) as u8;
-}
-
-// The block of a condition, well formed or not.
-pub fn sealed(c: Condition) -> [u8; LENGTH]
-    ensures { λ r. ⌜ r ≡ blockOf c ⌝ }
-{
-    let mut block = [0u8; LENGTH];
-    put(c, &mut block);
-    block
 }
 
 // A condition is written as a block at the start of a buffer.

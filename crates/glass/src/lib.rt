@@ -127,10 +127,9 @@ pub fn dot(c: Condition, code: u32, k: u32) -> Answer
             value: 0,
         };
     };
-    let d = drawn(c, place);
     Answer {
         refusal: 0,
-        value: dots::dot(d, k) as u32,
+        value: dots::dot(drawn(c, place), k) as u32,
     }
 }
 
@@ -144,10 +143,9 @@ pub fn underline(c: Condition, code: u32) -> Answer
             value: 0,
         };
     };
-    let d = drawn(c, place);
     Answer {
         refusal: 0,
-        value: dots::underline(d) as u32,
+        value: dots::underline(drawn(c, place)) as u32,
     }
 }
 
@@ -161,9 +159,8 @@ pub fn lit(c: Condition, code: u32) -> Answer
             value: 0,
         };
     };
-    let d = drawn(c, place);
     Answer {
         refusal: 0,
-        value: dots::lit(d),
+        value: dots::lit(drawn(c, place)),
     }
 }
