@@ -52,7 +52,8 @@ module _ (b : List ℕ) (n : ℕ) (w : Bool) (d : n ≡ damageOf b) (z : n ≡ 0
 
 -- A writing ----------------------------------------------------------------------------------------------------------------
 
-unwritten : (c : Condition) (out : List ℕ) (n : ℕ) → writeRefusal c out ≡ n → (n ≡ 0 → ⊥) → WritePromise c out (record { refusal = n; length = 0 }) out
+unwritten : (c : Condition) (out : List ℕ) (n : ℕ) → writeRefusal c out ≡ n → (n ≡ 0 → ⊥)
+    → WritePromise c out (record { refusal = n; length = 0 }) out
 unfolding writeAnswer writeOut
 unwritten c out n e h =
     record { answer = rw (e, ne-eqb n 0 h); buffer = rw (e, ne-eqb n 0 h); back = λ z. absurd (h z) }
@@ -61,18 +62,22 @@ pub not-formed : (c : Condition) (out : List ℕ) → wellFormed c ≡ false →
 unfolding writeRefusal
 not-formed c out w = unwritten c out 3 (rw w) (λ z. omega arith)
 
-pub no-room : (c : Condition) (out : List ℕ) → wellFormed c ≡ true → length out < 512 → WritePromise c out (record { refusal = 10; length = 0 }) out
+pub no-room : (c : Condition) (out : List ℕ) → wellFormed c ≡ true → length out < 512
+    → WritePromise c out (record { refusal = 10; length = 0 }) out
 unfolding writeRefusal
 no-room c out w h = unwritten c out 10 (rw (w, lt-ltb (length out) 512 h)) (λ z. omega arith)
 
-pub written : (c : Condition) (out left : List ℕ) → Sized c → wellFormed c ≡ true → 512 ≤ length out → left ≡ blockOf c ++ drop 512 out
+pub written : (c : Condition) (out left : List ℕ) → Sized c → wellFormed c ≡ true → 512 ≤ length out
+    → left ≡ blockOf c ++ drop 512 out
     → WritePromise c out (record { refusal = 0; length = 512 }) left
 unfolding writeAnswer writeOut writeRefusal
 written c out left z w h e =
     record {
       answer = rw (w, le-ltb (length out) 512 h);
       buffer = rw (w, le-ltb (length out) 512 h) e;
-      back = λ n. ap (λ (l : List ℕ). readAnswer (take 512 l)) e ∙ ap readAnswer (take-at (blockOf c) (drop 512 out) 512 (length-block c z)) ∙ reread c z w;
+      back =
+          λ n. ap (λ (l : List ℕ). readAnswer (take 512 l)) e
+          ∙ ap readAnswer (take-at (blockOf c) (drop 512 out) 512 (length-block c z)) ∙ reread c z w;
     }
 
 -- Any two answers that a promise allows are equal --------------------------------------------------------------------------
@@ -80,5 +85,6 @@ written c out left z w h e =
 pub one-reading : (b : List ℕ) (r s : Outcome) → ReadPromise b r → ReadPromise b s → r ≡ s
 one-reading b r s p q = p .answer ∙ sym (q .answer)
 
-pub one-writing : (c : Condition) (out : List ℕ) (r s : Written) (x y : List ℕ) → WritePromise c out r x → WritePromise c out s y → (r ≡ s) × (x ≡ y)
+pub one-writing : (c : Condition) (out : List ℕ) (r s : Written) (x y : List ℕ)
+    → WritePromise c out r x → WritePromise c out s y → (r ≡ s) × (x ≡ y)
 one-writing c out r s x y p q = (p .answer ∙ sym (q .answer), p .buffer ∙ sym (q .buffer))

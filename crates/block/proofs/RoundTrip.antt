@@ -25,7 +25,8 @@ use Rattle.block.proofs.Tidying.{same-eq, same-refl, block-parts}
 pub condition-back : (c : Condition) → Sized c → conditionIn (blockOf c) ≡ c
 condition-back c z = ap conditionIn (block-parts c) ∙ back-with c _ z
 
-started : (c : Condition) → (eqb (getD (blockOf c) 0 0) 0x56 && eqb (getD (blockOf c) 1 0) 0x4B && eqb (getD (blockOf c) 2 0) 0x01 && true && true) ≡ true
+started : (c : Condition)
+    → (eqb (getD (blockOf c) 0 0) 0x56 && eqb (getD (blockOf c) 1 0) 0x4B && eqb (getD (blockOf c) 2 0) 0x01 && true && true) ≡ true
 unfolding blockOf sealOf bodyOf packedOf headOf
 started c = refl
 
@@ -37,7 +38,8 @@ intact-back c z =
     let low : getD (blockOf c) 510 0 ≡ k % 256 = getD-at (bodyOf c) (k % 256) (k / 256 ∷ []) 0 510 (length-body c z) in
     let long : length (bodyOf c ++ (k % 256 ∷ [])) ≡ 511 = length-append (bodyOf c) _ ∙ ap (λ (n : ℕ). n + 1) (length-body c z) in
     let high : getD (blockOf c) 511 0 ≡ k / 256 =
-    ap (λ (l : List ℕ). getD l 511 0) (sym (append-snoc (bodyOf c) (k % 256) (k / 256 ∷ []))) ∙ getD-at (bodyOf c ++ (k % 256 ∷ [])) (k / 256) [] 0 511 long in
+    ap (λ (l : List ℕ). getD l 511 0) (sym (append-snoc (bodyOf c) (k % 256) (k / 256 ∷ [])))
+    ∙ getD-at (bodyOf c ++ (k % 256 ∷ [])) (k / 256) [] 0 511 long in
     rw (same, low, high, eq-eqb (k % 256) (k % 256) refl, eq-eqb (k / 256) (k / 256) refl) (started c)
 
 -- what a well-formed condition is written as is accepted, and is read as that condition
@@ -61,13 +63,20 @@ answered b e = rw (eq-eqb _ _ e)
 
 accepted : (b : List ℕ) → readRefusal b ≡ 0 → Accepted b
 unfolding readRefusal sound
-accepted b e = go (eqb (length b) 512) refl (intact b) refl (wellFormed (conditionIn b)) refl (sameBytes (blockOf (conditionIn b)) b) refl e
+accepted b e =
+    go (eqb (length b) 512) refl (intact b) refl (wellFormed (conditionIn b)) refl (sameBytes (blockOf (conditionIn b)) b) refl e
   where
     go : (p : Bool) → eqb (length b) 512 ≡ p → (q : Bool) → intact b ≡ q → (r : Bool) → wellFormed (conditionIn b) ≡ r
         → (s : Bool) → sameBytes (blockOf (conditionIn b)) b ≡ s
         → _≡_ {A = ℕ} (cond (not p) 1 (cond (not q) 2 (cond (not (r && s)) 3 0))) 0 → Accepted b
     go true ep true eq true er true es f =
-        record { long = eqb-true (length b) 512 ep; whole = eq; formed = er; same = same-eq (blockOf (conditionIn b)) b es; answer = answered b e }
+        record {
+          long = eqb-true (length b) 512 ep;
+          whole = eq;
+          formed = er;
+          same = same-eq (blockOf (conditionIn b)) b es;
+          answer = answered b e;
+        }
     go true ep true eq true er false es f = absurd (let z : _≡_ {A = ℕ} 3 0 = f in omega arith)
     go true ep true eq false er s es f = absurd (let z : _≡_ {A = ℕ} 3 0 = f in omega arith)
     go true ep false eq r er s es f = absurd (let z : _≡_ {A = ℕ} 2 0 = f in omega arith)
@@ -78,7 +87,8 @@ pub refusal-of : (b : List ℕ) → readAnswer b .refusal ≡ readRefusal b
 unfolding readAnswer
 refusal-of b = go (eqb (readRefusal b) 0) refl
   where
-    go : (t : Bool) → eqb (readRefusal b) 0 ≡ t → cond t (record { refusal = 0; condition = conditionIn b }) (refusedOf (readRefusal b)) .refusal ≡ readRefusal b
+    go : (t : Bool) → eqb (readRefusal b) 0 ≡ t
+        → cond t (record { refusal = 0; condition = conditionIn b }) (refusedOf (readRefusal b)) .refusal ≡ readRefusal b
     go true h = sym (eqb-true _ _ h)
     go false h = refl
 
@@ -92,6 +102,7 @@ pub read-formed : (b : List ℕ) → wellFormed (readAnswer b .condition) ≡ tr
 unfolding readAnswer
 read-formed b = go (eqb (readRefusal b) 0) refl
   where
-    go : (t : Bool) → eqb (readRefusal b) 0 ≡ t → wellFormed (cond t (record { refusal = 0; condition = conditionIn b }) (refusedOf (readRefusal b)) .condition) ≡ true
+    go : (t : Bool) → eqb (readRefusal b) 0 ≡ t
+        → wellFormed (cond t (record { refusal = 0; condition = conditionIn b }) (refusedOf (readRefusal b)) .condition) ≡ true
     go true h = accepted b (eqb-true _ _ h) .formed
     go false h = power-up-good 0 (omega arith)

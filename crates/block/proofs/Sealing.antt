@@ -15,6 +15,7 @@ use Rattle.layout.specs.Layout.{packedOf}
 use Rattle.block.specs.Block.{weigh, checkOf, bodyOf, sealOf, blockOf, putOver}
 use Rattle.block.specs.Tidy.{restZero}
 use Rattle.condition.proofs.Good.{Sized}
+use Rattle.layout.proofs.Parts.{part-length}
 use Rattle.layout.proofs.PackedBack.{length-packed}
 
 pub length-body : (c : Condition) → Sized c → length (bodyOf c) ≡ 510
@@ -49,8 +50,7 @@ weigh-over (x ∷ p) n k = ap (λ (m : ℕ). n * x + m) (weigh-over p (n + 1) k)
 pub unused : (n at : ℕ) (b : List ℕ) → at + n ≤ length b → allUpTo 0 (take n (drop at b)) ≡ true
     → take n (drop at b) ≡ replicate n 0
 unused n at b h e =
-    let l : length (take n (drop at b)) ≡ n = length-take-le n (drop at b) (simp length-drop (omega arith)) in
-    all-zero (take n (drop at b)) e ∙ ap (λ (k : ℕ). replicate k 0) l
+    all-zero (take n (drop at b)) e ∙ ap (λ (k : ℕ). replicate k 0) (part-length at n b h)
 
 -- so where the unused bytes are 0 the first 200 weigh all
 pub check-weighty : (b : List ℕ) (t : Bool) (k n : ℕ) → 510 ≤ length b → t ≡ restZero b → k ≡ cond t 200 510
@@ -112,8 +112,8 @@ put-block c z out first l x w h ef ew el ex =
     let f : l ≡ first ++ drop 200 out = el ∙ rw (take-all (length out) first a, n) in
     let t : take 200 l ≡ packedOf c = ap (take 200) f ∙ take-at first (drop 200 out) 200 n ∙ ef in
     let g : drop 200 l ≡ drop 200 out = ap (drop 200) f ∙ drop-at first (drop 200 out) 200 n in
-    let m : length (take 310 (drop 200 out)) ≡ 310 = length-take-le 310 (drop 200 out) (simp length-drop (omega arith)) in
-    let y : x ≡ replicate 310 0 = ex ∙ ap (λ (r : List ℕ). replicate (length (take 310 r)) 0) g ∙ ap (λ (k : ℕ). replicate k 0) m in
+    let m : length (take 310 (drop 200 out)) ≡ 310 = part-length 200 310 out (omega arith) in
+    let y : x ≡ replicate 310 0 = rw (g, m) at ex in
     let d : drop 310 (drop 200 l) ≡ getD out 510 0 ∷ getD out 511 0 ∷ drop 512 out =
     ap (drop 310) g ∙ drop-drop 310 200 out ∙ two-bytes out h in
     let b : take 510 (bodyOf c) ≡ bodyOf c = take-all 510 (bodyOf c) (omega (arith, length-body c z)) in

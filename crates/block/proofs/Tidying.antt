@@ -6,8 +6,8 @@ use mathlib.Core.List.{List, [], _∷_, _++_, append-assoc}
 use native.Mathlib.Omega.{arith}
 use native.Mathlib.Nat.{add-zero}
 use lib.Dec.{eqb, ltb, leb}
-use lib.ListN.{length, getD, take, drop, replicate, take-append-drop, drop-of-length-le}
-use lib.Seq.{drop-drop, drop-cons, take-at, drop-at, getD-take, getD-drop}
+use lib.ListN.{length, getD, take, drop, replicate, drop-of-length-le}
+use lib.Seq.{drop-cons, take-at, drop-at, getD-take, getD-drop}
 use borrow.Author.Tests.{eqb-true, eq-eqb, leb-true, ltb-true}
 use Rattle.laws.proofs.Tests.{both}
 use Rattle.condition.specs.declared.Condition.{Condition}
@@ -19,7 +19,8 @@ use Rattle.block.specs.Block.{checkOf, bodyOf, sealOf, blockOf}
 use Rattle.block.specs.Reading.{sameBytes, intact}
 use Rattle.block.specs.Tidy.{kindGood, restZero, tidy}
 use Rattle.condition.proofs.Good.{Sized}
-use Rattle.layout.proofs.PackedBack.{length-packed, sized-in}
+use Rattle.layout.proofs.Parts.{cut}
+use Rattle.layout.proofs.PackedBack.{length-packed, sized-in, repacked}
 use Rattle.block.proofs.Sealing.{unused, two-bytes, length-body, check-body}
 
 pub same-eq : (x y : List ℕ) → sameBytes x y ≡ true → x ≡ y
@@ -55,8 +56,10 @@ kind-low UserCode = refl
 kind-low (UserData x n) = refl
 
 module _ (c : Condition) (w : List ℕ) where
-  heads : (leb (getD (packedOf c ++ w) 5 0) 1 && leb (getD (packedOf c ++ w) 6 0) 1 && leb (getD (packedOf c ++ w) 9 0) 1 && leb (getD (packedOf c ++ w) 12 0) 1
-      && kindGood (getD (packedOf c ++ w) 13 0) (getD (packedOf c ++ w) 14 0) (getD (packedOf c ++ w) 15 0) && allUpTo 0 (take 3 (drop 21 (packedOf c ++ w))) && true) ≡ true
+  heads : (leb (getD (packedOf c ++ w) 5 0) 1 && leb (getD (packedOf c ++ w) 6 0) 1 && leb (getD (packedOf c ++ w) 9 0) 1
+      && leb (getD (packedOf c ++ w) 12 0) 1
+      && kindGood (getD (packedOf c ++ w) 13 0) (getD (packedOf c ++ w) 14 0) (getD (packedOf c ++ w) 15 0)
+      && allUpTo 0 (take 3 (drop 21 (packedOf c ++ w))) && true) ≡ true
   unfolding packedOf headOf allUpTo
   heads = rw (flag-low (c .scrolling), flag-low (c .shown), flag-low (c .euro), flag-low (c .flickerless), kind-low (c .pending))
 
@@ -65,7 +68,8 @@ unfolding tidy allUpTo
 ended-tidy c e z = rw (drop-at (packedOf c) (replicate 310 0 ++ e) 200 (length-packed c z)) (heads c (replicate 310 0 ++ e))
 
 -- a block is its packed condition, zeros, and the check
-pub block-parts : (c : Condition) → blockOf c ≡ packedOf c ++ (replicate 310 0 ++ (checkOf (bodyOf c) % 256 ∷ checkOf (bodyOf c) / 256 ∷ []))
+pub block-parts : (c : Condition) → blockOf c
+    ≡ packedOf c ++ (replicate 310 0 ++ (checkOf (bodyOf c) % 256 ∷ checkOf (bodyOf c) / 256 ∷ []))
 unfolding blockOf sealOf bodyOf
 block-parts c = append-assoc (packedOf c) (replicate 310 0) _
 
@@ -85,9 +89,6 @@ opened (suc n) at l h =
     let lt : at < length l = omega arith in
     let e : suc at + n ≡ at + suc n = omega arith in
     drop-cons l at 0 lt ∙ ap (λ (r : List ℕ). getD l at 0 ∷ r) (opened n (suc at) l (omega arith) ∙ rw e)
-
-cut : (n at : ℕ) (l : List ℕ) → drop at l ≡ take n (drop at l) ++ drop (at + n) l
-cut n at l = rw (← drop-drop n at l) (sym (take-append-drop n (drop at l)))
 
 flag-fits : (x : ℕ) → leb x 1 ≡ true → flag (eqb x 1) ≡ x
 flag-fits zero e = refl
@@ -169,11 +170,18 @@ intact-parts b e =
     let p₃ = both (f₀ && f₁ && f₂) f₃ (p₄ .0) in
     let p₂ = both (f₀ && f₁) f₂ (p₃ .0) in
     let p₁ = both f₀ f₁ (p₂ .0) in
-    record { first = eqb-true _ _ (p₁ .0); second = eqb-true _ _ (p₁ .1); third = eqb-true _ _ (p₂ .1); low = eqb-true _ _ (p₃ .1); high = eqb-true _ _ (p₄ .1) }
+    record {
+      first = eqb-true _ _ (p₁ .0);
+      second = eqb-true _ _ (p₁ .1);
+      third = eqb-true _ _ (p₂ .1);
+      low = eqb-true _ _ (p₃ .1);
+      high = eqb-true _ _ (p₄ .1);
+    }
 
 three-zeros : (b : List ℕ) → length b ≡ 512 → allUpTo 0 (take 3 (drop 21 b)) ≡ true → gets 3 21 b ≡ 0 ∷ 0 ∷ 0 ∷ []
 three-zeros b h e =
-    let t : take 3 (drop 21 b) ≡ gets 3 21 b = ap (take 3) (opened 3 21 b (omega arith)) ∙ take-at (gets 3 21 b) (drop 24 b) 3 refl in
+    let t : take 3 (drop 21 b) ≡ gets 3 21 b =
+    ap (take 3) (opened 3 21 b (omega arith)) ∙ take-at (gets 3 21 b) (drop 24 b) 3 refl in
     sym t ∙ unused 3 21 b (omega arith) e
 
 held-at : (b : List ℕ) (i : ℕ) → i < 4 → getD (take 4 (drop 16 b)) i 0 ≡ getD b (16 + i) 0
@@ -213,18 +221,13 @@ head-back b h m t =
 
 -- the whole list, in its parts
 body-back : (b : List ℕ) → length b ≡ 512 → Intact b → Tidy b → bodyOf (conditionIn b) ++ drop 510 b ≡ b
-unfolding bodyOf packedOf conditionIn
+unfolding bodyOf
 body-back b h m t =
-    let w : List ℕ = replicate 310 0 ++ drop 510 b in
-    let e₄ : drop 200 b ≡ w = cut 310 200 b ∙ ap (λ (l : List ℕ). l ++ drop 510 b) (unused 310 200 b (omega arith) (t .rest)) in
-    let r₃ : List ℕ = take 96 (drop 104 b) ++ w in
-    let e₃ : drop 104 b ≡ r₃ = cut 96 104 b ∙ ap (λ (l : List ℕ). take 96 (drop 104 b) ++ l) e₄ in
-    let r₂ : List ℕ = take 40 (drop 64 b) ++ r₃ in
-    let e₂ : drop 64 b ≡ r₂ = cut 40 64 b ∙ ap (λ (l : List ℕ). take 40 (drop 64 b) ++ l) e₃ in
-    let r₁ : List ℕ = take 40 (drop 24 b) ++ r₂ in
-    let e₁ : drop 24 b ≡ r₁ = cut 40 24 b ∙ ap (λ (l : List ℕ). take 40 (drop 24 b) ++ l) e₂ in
-    let flat : bodyOf (conditionIn b) ++ drop 510 b ≡ headOf (conditionIn b) ++ r₁ = simp append-assoc in
-    flat ∙ ap (λ (l : List ℕ). l ++ r₁) (head-back b h m t) ∙ sym (opened 24 0 b (omega arith) ∙ ap (λ (l : List ℕ). gets 24 0 b ++ l) e₁)
+    let p : List ℕ = packedOf (conditionIn b) in
+    let e : drop 200 b ≡ replicate 310 0 ++ drop 510 b =
+    cut 200 310 b ∙ ap (λ (l : List ℕ). l ++ drop 510 b) (unused 310 200 b (omega arith) (t .rest)) in
+    append-assoc p (replicate 310 0) (drop 510 b) ∙ ap (λ (l : List ℕ). p ++ l) (sym e) ∙ repacked b
+    ∙ ap (λ (l : List ℕ). l ++ drop 24 b) (head-back b h m t) ∙ sym (opened 24 0 b (omega arith))
 
 end-back : (b : List ℕ) → length b ≡ 512 → Intact b → drop 510 b ≡ checkOf b % 256 ∷ checkOf b / 256 ∷ []
 end-back b h m =

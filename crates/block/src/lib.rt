@@ -110,7 +110,7 @@ pub fn write(c: Condition, out: &mut [u8]) -> Written
     put(c, out);
     Written {
         refusal: 0,
-        length: 512,
+        length: LENGTH as u16,
     }
 }
 

@@ -13,7 +13,9 @@ use Rattle.condition.specs.declared.Pending.{Pending}
 use Rattle.condition.specs.declared.Pending.the-variants.{Nothing, Escape, Position, Luminance, Speed, UserCode, UserData}
 use Rattle.condition.specs.Condition.{heldOf, powerUp}
 use Rattle.condition.specs.Set.{withShown, withFont, withEuro, withFlickerless, withPending}
-use Rattle.condition.specs.Bytes.{leftOf, rightOf, downOf, homeOf, returnOf, clearOf, modeOf, internationalOf, writeOf, isChar, controlOf, escapeOf, positionOf, luminanceOf, speedOf, dataOf, stepAt, stepOf, runOf}
+use Rattle.condition.specs.Bytes.{leftOf, rightOf, downOf, homeOf, returnOf, clearOf, modeOf, internationalOf, writeOf}
+use Rattle.condition.specs.Bytes.{isChar, controlOf, escapeOf, positionOf, luminanceOf, speedOf, dataOf, stepAt, stepOf}
+use Rattle.condition.specs.Bytes.{runOf}
 
 -- the property after each command, where the byte b comes to the condition c
 pub record Commands (P : Condition → Type 0) (c : Condition) (b : ℕ) : Type 0 where
@@ -90,7 +92,8 @@ module _ (P : Condition → Type 0) (c : Condition) (b : ℕ) (k : Commands P c 
       go (UserData code n) e = k .user-data code n e
 
 -- a property that each byte of a run keeps, the run keeps
-pub run-by : (P : Condition → Type 0) (Q : ℕ → Type 0) → ((c : Condition) (b : ℕ) → Q b → P c → P (stepOf c b)) → (c : Condition) (bs : List ℕ) → ((i : ℕ) → Q (getD bs i 0)) → P c
+pub run-by : (P : Condition → Type 0) (Q : ℕ → Type 0) → ((c : Condition) (b : ℕ) → Q b → P c → P (stepOf c b))
+    → (c : Condition) (bs : List ℕ) → ((i : ℕ) → Q (getD bs i 0)) → P c
     → P (runOf c bs)
 unfolding runOf
 run-by P Q f c [] q p = p

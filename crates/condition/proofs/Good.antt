@@ -9,12 +9,13 @@ use lib.ListN.{set, take, drop, length, length-append, length-take, length-drop,
 use borrow.Author.Tests.{leb-true, ltb-true, le-leb, lt-ltb}
 use Rattle.laws.proofs.Tests.{both, by-test}
 use Rattle.row.specs.Row.{lineStart, scrolled, shifted}
-use Rattle.users.specs.Users.{defineOf}
 use Rattle.users.proofs.Places.{define-96}
 use Rattle.condition.specs.declared.Condition.{Condition}
-use Rattle.condition.specs.Condition.{column, allUpTo, usersGood, pendingGood, numbersGood, scrollGood, escapeGood, wellFormed, powerUp}
+use Rattle.condition.specs.Condition.{column, allUpTo, usersGood, pendingGood, numbersGood, scrollGood, escapeGood}
+use Rattle.condition.specs.Condition.{wellFormed, powerUp}
 use Rattle.condition.specs.Set.{withCell}
-use Rattle.condition.specs.Bytes.{scrollOf, leftOf, rightOf, downOf, returnOf, clearOf, pushOf, writeOf, positionOf, dataOf, stepOf, runOf}
+use Rattle.condition.specs.Bytes.{scrollOf, leftOf, rightOf, downOf, returnOf, clearOf, pushOf, writeOf, positionOf}
+use Rattle.condition.specs.Bytes.{dataOf, stepOf, runOf}
 use Rattle.condition.proofs.Each.{Commands, step-by, run-by}
 
 -- the parts of well-formedness
@@ -35,11 +36,16 @@ pub record Good (c : Condition) : Type 0 where
 pub good : (c : Condition) → wellFormed c ≡ true → Good c
 unfolding wellFormed numbersGood
 good c e =
-    let p₅ = both (numbersGood c && scrollGood c && allUpTo 1 (c .fonts) && usersGood (c .users .count) (c .users .bytes) && pendingGood (c .pending) (c .held)) (escapeGood c) e in
-    let p₄ = both (numbersGood c && scrollGood c && allUpTo 1 (c .fonts) && usersGood (c .users .count) (c .users .bytes)) (pendingGood (c .pending) (c .held)) (p₅ .0) in
-    let p₃ = both (numbersGood c && scrollGood c && allUpTo 1 (c .fonts)) (usersGood (c .users .count) (c .users .bytes)) (p₄ .0) in
-    let p₂ = both (numbersGood c && scrollGood c) (allUpTo 1 (c .fonts)) (p₃ .0) in
-    let p₁ = both (numbersGood c) (scrollGood c) (p₂ .0) in
+    let n = numbersGood c in
+    let s = scrollGood c in
+    let f = allUpTo 1 (c .fonts) in
+    let u = usersGood (c .users .count) (c .users .bytes) in
+    let p = pendingGood (c .pending) (c .held) in
+    let p₅ = both (n && s && f && u && p) (escapeGood c) e in
+    let p₄ = both (n && s && f && u) p (p₅ .0) in
+    let p₃ = both (n && s && f) u (p₄ .0) in
+    let p₂ = both (n && s) f (p₃ .0) in
+    let p₁ = both n s (p₂ .0) in
     let q₆ = both _ (leb (c .users .count) 16) (p₁ .0) in
     let q₅ = both _ (leb (c .luminance) 3) (q₆ .0) in
     let q₄ = both _ (leb (c .link) 1) (q₅ .0) in
@@ -100,7 +106,13 @@ shifted-40 at v a h =
 
 scroll-sized : (c : Condition) → Sized c → Sized (scrollOf c)
 unfolding scrollOf
-scroll-sized c s = record { codes-40 = scrolled-40 0x20 (c .codes) (s .codes-40); fonts-40 = scrolled-40 (c .font) (c .fonts) (s .fonts-40); users-96 = s .users-96; held-4 = s .held-4 }
+scroll-sized c s =
+    record {
+      codes-40 = scrolled-40 0x20 (c .codes) (s .codes-40);
+      fonts-40 = scrolled-40 (c .font) (c .fonts) (s .fonts-40);
+      users-96 = s .users-96;
+      held-4 = s .held-4;
+    }
 
 right-sized : (c : Condition) → Sized c → Sized (rightOf c)
 unfolding rightOf
@@ -135,7 +147,8 @@ push-sized c b s =
 write-sized : (c : Condition) (b : ℕ) → Sized c → Sized (writeOf c b)
 unfolding writeOf
 write-sized c b s =
-    by-test Sized (eqb (c .mode) 3 && eqb (column c) 19) (λ _. push-sized c b s) (λ _. right-sized (withCell c (c .cursor) b) (put-sized c b s))
+    by-test Sized (eqb (c .mode) 3 && eqb (column c) 19) (λ _. push-sized c b s)
+    (λ _. right-sized (withCell c (c .cursor) b) (put-sized c b s))
 
 commands-sized : (c : Condition) (b : ℕ) → Sized c → Commands Sized c b
 unfolding leftOf downOf returnOf clearOf positionOf dataOf powerUp
@@ -166,8 +179,9 @@ commands-sized c b s =
       speed = λ e. search;
       code = λ e. search;
       user-data =
-          λ code n e. by-test Sized (ltb n 4) (λ _. let l : length (set (c .held) n b) ≡ 4 = length-set (c .held) n b ∙ s .held-4 in search)
-          (λ _. let l : length (defineOf (c .users) code (c .held) b .bytes) ≡ 96 = define-96 (c .users) code (c .held) b (s .users-96) in search);
+          λ code n e. by-test Sized (ltb n 4)
+          (λ _. let l : length (set (c .held) n b) ≡ 4 = length-set (c .held) n b ∙ s .held-4 in search)
+          (λ _. let l = define-96 (c .users) code (c .held) b (s .users-96) in search);
     }
 
 pub step-sized : (c : Condition) (b : ℕ) → Sized c → Sized (stepOf c b)
@@ -175,7 +189,3 @@ step-sized c b s = step-by Sized c b (commands-sized c b s)
 
 pub run-sized : (c : Condition) (bs : List ℕ) → Sized c → Sized (runOf c bs)
 run-sized c bs s = run-by Sized (λ _. Unit {0}) (λ c b _ t. step-sized c b t) c bs (λ _. tt) s
-
-pub power-up-sized : (f : ℕ) → Sized (powerUp f)
-unfolding powerUp
-power-up-sized f = search

@@ -15,9 +15,12 @@ use Rattle.users.proofs.Places.{not-user, define-count}
 use Rattle.condition.specs.declared.Condition.{Condition}
 use Rattle.condition.specs.declared.Pending.{Pending}
 use Rattle.condition.specs.declared.Pending.the-variants.{Nothing, Escape, UserData}
-use Rattle.condition.specs.Condition.{column, idle, heldOf, allUpTo, absent, usersGood, pendingGood, numbersGood, scrollGood, escapeGood, wellFormed, powerUp}
-use Rattle.condition.specs.Set.{withCells, withCell, withCursor, withMode, withScrolling, withShown, withFont, withEuro, withLuminance, withSpeed, withFlickerless, withPending, goTo}
-use Rattle.condition.specs.Bytes.{scrollOf, leftOf, rightOf, downOf, returnOf, clearOf, pushOf, writeOf, isChar, positionOf, dataOf, stepOf, runOf}
+use Rattle.condition.specs.Condition.{column, idle, heldOf, allUpTo, absent, usersGood, pendingGood, numbersGood}
+use Rattle.condition.specs.Condition.{scrollGood, escapeGood, wellFormed, powerUp}
+use Rattle.condition.specs.Set.{withCells, withCell, withCursor, withMode, withScrolling, withShown, withFont, withEuro}
+use Rattle.condition.specs.Set.{withLuminance, withSpeed, withFlickerless, withPending, goTo}
+use Rattle.condition.specs.Bytes.{scrollOf, leftOf, rightOf, downOf, returnOf, clearOf, pushOf, writeOf, isChar}
+use Rattle.condition.specs.Bytes.{positionOf, dataOf, stepOf, runOf}
 use Rattle.condition.proofs.Ranges.{up-to-set, up-to-append, up-to-cons, up-to-take, up-to-drop, up-to-replicate}
 use Rattle.condition.proofs.Users.{define-good, at-absent}
 use Rattle.condition.proofs.Each.{Commands, step-by, run-by}
@@ -41,7 +44,8 @@ shifted-1 : (start v : ℕ) (a : List ℕ) → v ≤ 1 → allUpTo 1 a ≡ true 
 unfolding shifted
 shifted-1 start v a h e =
     up-to-append 1 (take start a ++ take 19 (drop (start + 1) a)) (v ∷ drop (start + 20) a)
-    (up-to-append 1 (take start a) (take 19 (drop (start + 1) a)) (up-to-take 1 start a e) (up-to-take 1 19 (drop (start + 1) a) (up-to-drop 1 (start + 1) a e)))
+    (up-to-append 1 (take start a) (take 19 (drop (start + 1) a)) (up-to-take 1 start a e)
+    (up-to-take 1 19 (drop (start + 1) a) (up-to-drop 1 (start + 1) a e)))
     (up-to-cons 1 v (drop (start + 20) a) h (up-to-drop 1 (start + 20) a e))
 
 -- One field changed --------------------------------------------------------------------------------------------------------
@@ -73,18 +77,23 @@ module _ (c : Condition) (g : Good c) where
   cursor-kept x h e = let s : (not (c .scrolling) || eqb (c .mode) 3 && eqb (x % 20) 19) ≡ true = rw e in search
 
   pub cell-kept : (b : ℕ) → Good (withCell c (c .cursor) b)
-  cell-kept b = cells-kept (set (c .codes) (c .cursor) b) (set (c .fonts) (c .cursor) (c .font)) (up-to-set 1 (c .fonts) (c .cursor) (c .font) (g .fonts-1) (g .font-1))
+  cell-kept b =
+      cells-kept (set (c .codes) (c .cursor) b) (set (c .fonts) (c .cursor) (c .font))
+      (up-to-set 1 (c .fonts) (c .cursor) (c .font) (g .fonts-1) (g .font-1))
 
   pub scroll-kept : Good (scrollOf c)
   unfolding scrollOf
-  scroll-kept = cells-kept (scrolled 0x20 (c .codes)) (scrolled (c .font) (c .fonts)) (scrolled-1 (c .font) (c .fonts) (g .font-1) (g .fonts-1))
+  scroll-kept =
+      cells-kept (scrolled 0x20 (c .codes)) (scrolled (c .font) (c .fonts))
+      (scrolled-1 (c .font) (c .fonts) (g .font-1) (g .fonts-1))
 
   pub clear-kept : Good (clearOf c)
   unfolding clearOf scrollGood escapeGood
   clear-kept = let h : allUpTo 1 (replicate 40 (c .font)) ≡ true = up-to-replicate 1 40 (c .font) (g .font-1) in search
 
   -- another command is half received, or none, and nothing is held
-  pub await-kept : (p : Pending) → heldOf (c .pending) ≡ 0 → heldOf p ≡ 0 → absent 0x1B (c .users .count) (c .users .bytes) ≡ true → Good (withPending c p)
+  pub await-kept : (p : Pending) → heldOf (c .pending) ≡ 0 → heldOf p ≡ 0
+      → absent 0x1B (c .users .count) (c .users .bytes) ≡ true → Good (withPending c p)
   unfolding scrollGood escapeGood pendingGood
   await-kept p e z a =
       let h : (leb (heldOf p) 4 && allUpTo 0 (drop (heldOf p) (c .held))) ≡ true = rw z (rw e at (g .pending-good)) in
@@ -99,11 +108,15 @@ module _ (c : Condition) (g : Good c) where
 
   pub left-kept : Good (leftOf c)
   unfolding leftOf
-  left-kept = by-test Good (eqb (column c) 0) (λ _. go-kept (c .cursor) (g .cursor-40)) (λ _. go-kept (c .cursor - 1) (omega (arith, g .cursor-40)))
+  left-kept =
+      by-test Good (eqb (column c) 0) (λ _. go-kept (c .cursor) (g .cursor-40))
+      (λ _. go-kept (c .cursor - 1) (omega (arith, g .cursor-40)))
 
   pub return-kept : Good (returnOf c)
   unfolding returnOf lineStart
-  return-kept = go-kept (cond (ltb (c .cursor) 20) 0 20) (by-test (λ (x : ℕ). x < 40) (ltb (c .cursor) 20) (λ _. omega arith) (λ _. omega arith))
+  return-kept =
+      go-kept (cond (ltb (c .cursor) 20) 0 20)
+      (by-test (λ (x : ℕ). x < 40) (ltb (c .cursor) 20) (λ _. omega arith) (λ _. omega arith))
 
   pub mode-kept : (m : ℕ) → 1 ≤ m → m ≤ 3 → Good (withScrolling (withMode c m) false)
   unfolding scrollGood escapeGood
@@ -139,7 +152,8 @@ right-kept c g =
     by-test Good (ltb (column c) 19)
     (λ h.
     let l : column c < 19 = ltb-true (column c) 19 h in
-    cursor-kept c g (c .cursor + 1) (omega (arith, g .cursor-40)) (scroll-off c g (rw (ne-eqb (column c) 19 (omega arith), and-false))))
+    let off = scroll-off c g (rw (ne-eqb (column c) 19 (omega arith), and-false)) in
+    cursor-kept c g (c .cursor + 1) (omega (arith, g .cursor-40)) off)
     (λ _. by-test Good (eqb (c .mode) 3) (λ _. g)
     (λ m. let off : c .scrolling ≡ false = scroll-off c g (rw m) in
     by-test Good (eqb (c .cursor) 19) (λ _. cursor-kept c g 20 (omega arith) off)
@@ -164,7 +178,8 @@ push-kept c b g e =
 pub write-kept : (c : Condition) (b : ℕ) → Good c → Good (writeOf c b)
 unfolding writeOf
 write-kept c b g =
-    by-test Good (eqb (c .mode) 3 && eqb (column c) 19) (λ e. push-kept c b g e) (λ _. right-kept (withCell c (c .cursor) b) (cell-kept c g b))
+    by-test Good (eqb (c .mode) 3 && eqb (column c) 19) (λ e. push-kept c b g e)
+    (λ _. right-kept (withCell c (c .cursor) b) (cell-kept c g b))
 
 -- the held bytes from the next one up are 0
 next-held : (h : List ℕ) (n d : ℕ) → allUpTo 0 (drop n h) ≡ true → allUpTo 0 (drop (n + 1) (set h n d)) ≡ true
@@ -186,7 +201,8 @@ data-kept c code n d s g e =
     search)
 
 -- 1Bh is no character, so it is no user code
-pub escape-free : (c : Condition) → Sized c → Good c → isChar c 0x1B ≡ false → absent 0x1B (c .users .count) (c .users .bytes) ≡ true
+pub escape-free : (c : Condition) → Sized c → Good c → isChar c 0x1B ≡ false
+    → absent 0x1B (c .users .count) (c .users .bytes) ≡ true
 unfolding isChar
 escape-free c s g e =
     at-absent 0x1B (c .users .count) (c .users .bytes)
@@ -214,7 +230,8 @@ commands-kept c b s h g =
       initialise = good (powerUp (c .link)) (power-up-good (c .link) (g .link-1));
       steady = λ e. flickerless-kept (withPending c Nothing) (ended (rw e) (rw e)) true;
       position =
-          λ e. by-test Good (leb b 0x27) (λ t. go-kept (withPending c Nothing) (ended (rw e) (rw e)) b (omega (arith, leb-true b 0x27 t)))
+          λ e. by-test Good (leb b 0x27)
+          (λ t. go-kept (withPending c Nothing) (ended (rw e) (rw e)) b (omega (arith, leb-true b 0x27 t)))
           (λ _. ended (rw e) (rw e));
       luminance = λ e. luminance-kept (withPending c Nothing) (ended (rw e) (rw e)) (b / 64) (omega arith);
       speed = λ e. speed-kept (withPending c Nothing) (ended (rw e) (rw e)) b;
@@ -231,7 +248,9 @@ step-good c b s h g = step-by Good c b (commands-kept c b s h g)
 pub step-kept : (c : Condition) (b : ℕ) → Sized c → b < 256 → wellFormed c ≡ true → wellFormed (stepOf c b) ≡ true
 step-kept c b s h w = formed (stepOf c b) (step-good c b s h (good c w))
 
-pub run-kept : (c : Condition) (bs : List ℕ) → Sized c → ((i : ℕ) → getD bs i 0 < 256) → wellFormed c ≡ true → wellFormed (runOf c bs) ≡ true
+pub run-kept : (c : Condition) (bs : List ℕ) → Sized c → ((i : ℕ) → getD bs i 0 < 256) → wellFormed c ≡ true
+    → wellFormed (runOf c bs) ≡ true
 run-kept c bs s h w =
     formed (runOf c bs)
-    (run-by (λ (d : Condition). Sized d × Good d) (λ (b : ℕ). b < 256) (λ d b l p. (step-sized d b (p .0), step-good d b (p .0) l (p .1))) c bs h (s, good c w) .1)
+    (run-by (λ (d : Condition). Sized d × Good d) (λ (b : ℕ). b < 256)
+    (λ d b l p. (step-sized d b (p .0), step-good d b (p .0) l (p .1))) c bs h (s, good c w) .1)

@@ -14,7 +14,8 @@ use Rattle.condition.specs.declared.Condition.{Condition}
 use Rattle.condition.specs.declared.Pending.{Pending}
 use Rattle.condition.specs.declared.Pending.the-variants.{Nothing, Escape, Position, Luminance, Speed, UserCode, UserData}
 use Rattle.condition.specs.Bytes.{isChar, stepOf, runOf}
-use Rattle.condition.specs.Busy.{rightScrolls, downScrolls, lineShifts, writeBusy, controlBusy, escapeBusy, figureAt, figureOf, busyOf, one, flickerlessOf}
+use Rattle.condition.specs.Busy.{rightScrolls, downScrolls, lineShifts, writeBusy, controlBusy, escapeBusy, figureAt}
+use Rattle.condition.specs.Busy.{figureOf, busyOf, one, flickerlessOf}
 
 -- One run or several with the same bytes in turn end alike ----------------------------------------------------------------
 
@@ -28,7 +29,8 @@ unfolding runOf busyOf
 busy-append c [] ys = sym (zero-add (busyOf c ys))
 busy-append c (x ∷ xs) ys = rw (busy-append (stepOf c x) xs ys, add-assoc)
 
-pub flickerless-append : (c : Condition) (xs ys : List ℕ) → flickerlessOf c (xs ++ ys) ≡ flickerlessOf c xs + flickerlessOf (runOf c xs) ys
+pub flickerless-append : (c : Condition) (xs ys : List ℕ)
+    → flickerlessOf c (xs ++ ys) ≡ flickerlessOf c xs + flickerlessOf (runOf c xs) ys
 unfolding runOf flickerlessOf
 flickerless-append c [] ys = sym (zero-add (flickerlessOf c ys))
 flickerless-append c (x ∷ xs) ys = rw (flickerless-append (stepOf c x) xs ys, add-assoc)
@@ -44,7 +46,8 @@ module _ (c : Condition) (bs : List ℕ) (i : ℕ) (h : i < length bs) where
   unfolding busyOf
   busy-turn = rw (add-one, drop-cons bs i 0 h)
 
-  pub flickerless-turn : one (c .flickerless) + flickerlessOf (stepOf c (getD bs i 0)) (drop (i + 1) bs) ≡ flickerlessOf c (drop i bs)
+  pub flickerless-turn : one (c .flickerless) + flickerlessOf (stepOf c (getD bs i 0)) (drop (i + 1) bs)
+      ≡ flickerlessOf c (drop i bs)
   unfolding flickerlessOf
   flickerless-turn = rw (add-one, drop-cons bs i 0 h)
 

@@ -12,14 +12,17 @@ use native.Mathlib.Nat.{add-zero}
 use Rattle.laws.proofs.Lists.{tail-part}
 use Rattle.condition.specs.Condition.{absent, usersGood, allUpTo}
 
-pub absent-step : (x left : ℕ) (s : List ℕ) (at : ℕ) → 0 < left → absent x left (drop at s) ≡ (not (eqb (getD s at 0) x) && absent x (left - 1) (drop (at + 6) s))
+pub absent-step : (x left : ℕ) (s : List ℕ) (at : ℕ) → 0 < left
+    → absent x left (drop at s) ≡ (not (eqb (getD s at 0) x) && absent x (left - 1) (drop (at + 6) s))
 unfolding absent
 absent-step x left s at h =
     let e : left ≡ suc (left - 1) = omega arith in
     ap (λ (n : ℕ). absent x n (drop at s)) e ∙ rw (getD-drop, add-zero, drop-drop)
 
 pub users-step : (left : ℕ) (s : List ℕ) (at : ℕ) → 0 < left
-    → usersGood left (drop at s) ≡ (ltb (getD s (at + 5) 0) 16 && (absent (getD s at 0) (left - 1) (drop (at + 6) s) && usersGood (left - 1) (drop (at + 6) s)))
+    → usersGood left (drop at s)
+    ≡ (ltb (getD s (at + 5) 0) 16 && (absent (getD s at 0) (left - 1) (drop (at + 6) s)
+    && usersGood (left - 1) (drop (at + 6) s)))
 unfolding usersGood
 users-step left s at h =
     let e : left ≡ suc (left - 1) = omega arith in

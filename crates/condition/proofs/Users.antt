@@ -64,7 +64,8 @@ more n l f a p = record { fifth = fifth; apart = apart; rest = rest }
 -- user codes distinct, each fifth byte below 16, the other places 0
 pub places : (n : ℕ) (l : List ℕ) → usersGood n l ≡ true → Places n l
 unfolding usersGood
-places zero l e = record { fifth = λ i h. omega arith; apart = λ i j h _ _. omega arith; rest = λ i h. omega (arith, up-to-at 0 l e i) }
+places zero l e =
+    record { fifth = λ i h. omega arith; apart = λ i j h _ _. omega arith; rest = λ i h. omega (arith, up-to-at 0 l e i) }
 places (suc n) l e =
     let p = both (ltb (getD l 5 0) 16) (absent (getD l 0 0) n (drop 6 l) && usersGood n (drop 6 l)) e in
     let q = both (absent (getD l 0 0) n (drop 6 l)) (usersGood n (drop 6 l)) (p .1) in
@@ -76,18 +77,21 @@ users-formed zero l p = at-up-to 0 l (λ i. omega (arith, p .rest i (omega arith
 users-formed (suc n) l p =
     rw (
       lt-ltb (getD l 5 0) 16 (p .fifth 0 (omega arith)),
-      at-absent (getD l 0 0) n (drop 6 l) (λ i h d. omega (arith, p .apart (suc i) 0 (omega arith) (omega arith) (sym (code-after l i) ∙ d))),
+      at-absent (getD l 0 0) n (drop 6 l)
+          (λ i h d. omega (arith, p .apart (suc i) 0 (omega arith) (omega arith) (sym (code-after l i) ∙ d))),
     )
     (users-formed n (drop 6 l)
     (record {
       fifth = λ i h. rw (fifth-after l i) (p .fifth (suc i) (omega arith));
       apart =
-          λ i j h m d. omega (arith, p .apart (suc i) (suc j) (omega arith) (omega arith) (sym (code-after l i) ∙ d ∙ code-after l j));
+          λ i j h m d.
+          omega (arith, p .apart (suc i) (suc j) (omega arith) (omega arith) (sym (code-after l i) ∙ d ∙ code-after l j));
       rest = λ i h. after l i (6 + i) refl ∙ p .rest (6 + i) (omega arith);
     }))
 
 -- a user character that is defined keeps them so
-pub define-good : (u : Users) (code : ℕ) (held : List ℕ) (last : ℕ) → length (u .bytes) ≡ 96 → u .count ≤ 16 → usersGood (u .count) (u .bytes) ≡ true
+pub define-good : (u : Users) (code : ℕ) (held : List ℕ) (last : ℕ) → length (u .bytes) ≡ 96
+    → u .count ≤ 16 → usersGood (u .count) (u .bytes) ≡ true
     → usersGood (defineOf u code held last .count) (defineOf u code held last .bytes) ≡ true
 define-good u code held last h l e =
     users-formed (defineOf u code held last .count) (defineOf u code held last .bytes)

@@ -10,7 +10,8 @@ use Rattle.condition.specs.declared.Condition.{Condition}
 use Rattle.condition.specs.declared.Pending.{Pending}
 use Rattle.condition.specs.declared.Pending.the-variants.{Nothing, Escape, Position, Luminance, Speed, UserCode, UserData}
 use Rattle.condition.specs.Condition.{column, powerUp}
-use Rattle.condition.specs.Set.{withCells, withCell, withCursor, withMode, withScrolling, withShown, withFont, withEuro, withLuminance, withSpeed, withFlickerless, withUsers, withPending, withHeld, goTo}
+use Rattle.condition.specs.Set.{withCells, withCell, withCursor, withMode, withScrolling, withShown, withFont, withEuro}
+use Rattle.condition.specs.Set.{withLuminance, withSpeed, withFlickerless, withUsers, withPending, withHeld, goTo}
 
 -- Scroll: top takes bottom, bottom is cleared. A cleared cell is 20h in the selected font.
 unfoldable pub scrollOf : Condition → Condition

@@ -1,5 +1,5 @@
 -- The condition with a field changed. A whole condition is written here, at power-up (Condition.antt) and where it is read from
--- bytes (block/specs/Layout.antt), and in no other definition: a new field is added at these three.
+-- bytes (layout/specs/Layout.antt), and in no other definition: a new field is added at these three.
 use Prim.Native.Nat.{ℕ}
 use mathlib.Core.List.{List}
 use mathlib.Core.Bool.{Bool, false}

@@ -2,7 +2,8 @@
 ghost use mathlib.Core.Path.{_≡_};
 ghost use Prim.Native.Nat.{_*_, _≤_};
 ghost use lib.ListN.{length};
-ghost use Rattle.condition.specs.Condition.{idle, heldOf, allUpTo, absent, usersGood, pendingGood, numbersGood, scrollGood, wellFormed, powerUp, powerUpAnswer};
+ghost use Rattle.condition.specs.Condition.{idle, heldOf, allUpTo, absent, usersGood, pendingGood, numbersGood};
+ghost use Rattle.condition.specs.Condition.{scrollGood, wellFormed, powerUp, powerUpAnswer};
 ghost use Rattle.condition.specs.Rows.{rowsGood};
 use users::Users;
 
@@ -72,7 +73,7 @@ fn is_absent(x: u8, n: usize, s: &[u8]) -> bool
         if s[at] == x {
             return false;
         }
-        at += 6;
+        at += Users::PLACE;
         left -= 1;
     }
     true
@@ -88,7 +89,7 @@ fn users_good(n: usize, s: &[u8]) -> bool
         let x = s[at];
         let d = s[at + 5];
         left -= 1;
-        at += 6;
+        at += Users::PLACE;
         if 16 <= d {
             return false;
         }
@@ -147,7 +148,7 @@ pub fn rows_good(fonts: &[u8], count: u8, users: &[u8], pending: Pending, held: 
     if fonts.len() != Condition::CELLS {
         return false;
     }
-    if users.len() != 96 {
+    if users.len() != Users::BYTES {
         return false;
     }
     if held.len() != Condition::HELD {
@@ -179,7 +180,7 @@ fn numbers_good(c: Condition) -> bool
 fn scroll_good(c: Condition) -> bool
     ensures { λ r. ⌜ r ≡ scrollGood c ⌝ }
 {
-    !c.scrolling | ((c.mode == 3) & (c.cursor % Condition::COLUMNS == 19))
+    !c.scrolling | ((c.mode == 3) & (c.cursor % Condition::COLUMNS == Condition::LAST_COLUMN))
 }
 
 impl Condition {
@@ -187,6 +188,8 @@ impl Condition {
     pub const CELLS: usize = 40;
 
     pub const COLUMNS: u8 = 20;
+
+    pub const LAST_COLUMN: u8 = 19;
 
     pub const HELD: usize = 4;
 
@@ -197,14 +200,14 @@ impl Condition {
 
     pub const FULL_LUMINANCE: u8 = 3;
 
-    pub const MOST_USERS: u8 = 16;
+    pub const MOST_USERS: u8 = Users::MOST;
 
     // Power-up for a font, whatever its number.
     fn powered(font: u8) -> Condition
         ensures { λ r. ⌜ r ≡ powerUp font ⌝ }
     {
         let users = Users {
-            bytes: [0u8; 96],
+            bytes: [0u8; Users::BYTES],
             count: 0,
         };
         Condition {
@@ -230,7 +233,7 @@ impl Condition {
     pub fn power_up(font: u32) -> Outcome
         ensures { λ r. ⌜ r ≡ powerUpAnswer font ⌝ }
     {
-        if font <= 1 {
+        if font <= Condition::LAST_FONT as u32 {
             return Outcome {
                 refusal: 0,
                 condition: Condition::powered(font as u8),

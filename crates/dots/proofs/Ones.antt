@@ -50,4 +50,11 @@ pub lit-law : (d : Character) → d .d1 < 256 → d .d2 < 256 → d .d3 < 256 �
     → ones (d .d1) + ones (d .d2) + ones (d .d3) + ones (d .d4) + ones (d .d5 % 8) ≡ litOf d
 unfolding litOf litUpTo dotOf
 lit-law d h1 h2 h3 h4 =
-    rw (← zero-add (ones (d .d1)), ones-eight 0 (d .d1) h1, ones-eight _ (d .d2) h2, ones-eight _ (d .d3) h3, ones-eight _ (d .d4) h4, ones-three _ (d .d5))
+    rw (
+      ← zero-add (ones (d .d1)),
+      ones-eight 0 (d .d1) h1,
+      ones-eight _ (d .d2) h2,
+      ones-eight _ (d .d3) h3,
+      ones-eight _ (d .d4) h4,
+      ones-three _ (d .d5),
+    )

@@ -60,13 +60,13 @@ pub fn view(c: Condition, position: u32) -> Seen
             shows: Shows::Blank,
         };
     }
-    if 39 < position {
+    let i = position as usize;
+    if Condition::CELLS <= i {
         return Seen {
             refusal: 3,
             shows: Shows::Blank,
         };
     }
-    let i = position as usize;
     let codes = c.codes;
     let fonts = c.fonts;
     Seen {

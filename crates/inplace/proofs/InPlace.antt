@@ -1,20 +1,22 @@
 -- What a store to a byte, or to a part, makes of the condition that stands there.
 use Prim.Native.Nat.{ℕ, zero, suc, _+_, _≤_, _<_}
 use mathlib.Core.Path.{_≡_, refl, ap, sym, _∙_}
-use mathlib.Core.List.{List, [], _∷_, _++_, append-assoc, append-nil}
+use mathlib.Core.List.{List, [], _∷_, _++_, append-assoc}
 use native.Mathlib.Omega.{arith}
 use lib.Dec.{eqb}
 use borrow.Author.Tests.{eq-eqb}
-use lib.ListN.{length, getD, take, drop, set, replicate, length-drop, take-append-drop}
-use lib.Seq.{take-at, drop-at, drop-drop, take-add, length-take-le, take-all, drop-length}
+use lib.ListN.{length, getD, take, drop, set, replicate}
+use lib.Seq.{take-at, drop-at}
 use Rattle.row.specs.Row.{onPicture, laid}
 use Rattle.row.proofs.Laws.{pictured, filled}
 use Rattle.users.specs.Users.{usersIn, defineIn}
 use Rattle.condition.specs.declared.Condition.{Condition}
 use Rattle.condition.specs.Condition.{powerUp}
-use Rattle.condition.specs.Set.{withCursor, withScrolling, withShown, withFont, withEuro, withLuminance, withSpeed, withFlickerless, withUsers, withPending, withCells, goTo}
+use Rattle.condition.specs.Set.{withCursor, withScrolling, withShown, withFont, withEuro, withLuminance, withSpeed}
+use Rattle.condition.specs.Set.{withFlickerless, withUsers, withPending, withCells, goTo}
 use Rattle.condition.specs.Bytes.{modeOf, internationalOf}
 use Rattle.layout.specs.Layout.{conditionIn, pendingOf}
+use Rattle.layout.proofs.Parts.{part-length, cut-parts, in-codes, past-codes, past-fonts, up-to-fonts, in-fonts, in-users}
 use Rattle.inplace.specs.InPlace.{blankOf, heldIn, releasedIn, resetIn, withUserBytes, definedIn}
 
 -- a property of every list of n elements or more, by its first n elements
@@ -80,9 +82,12 @@ pub flickerless-in : (s : List ℕ) (v : ℕ) → 200 ≤ length s → condition
 unfolding conditionIn
 flickerless-in s v h = stored (λ (l : List ℕ). set l 12 v) (λ (k : Condition). withFlickerless k (eqb v 1)) (search) s h
 
-pub pending-in : (s : List ℕ) (p a n : ℕ) → 200 ≤ length s → conditionIn (set (set (set s 13 p) 14 a) 15 n) ≡ withPending (conditionIn s) (pendingOf p a n)
+pub pending-in : (s : List ℕ) (p a n : ℕ) → 200 ≤ length s
+    → conditionIn (set (set (set s 13 p) 14 a) 15 n) ≡ withPending (conditionIn s) (pendingOf p a n)
 unfolding conditionIn
-pending-in s p a n h = stored (λ (l : List ℕ). set (set (set l 13 p) 14 a) 15 n) (λ (k : Condition). withPending k (pendingOf p a n)) (search) s h
+pending-in s p a n h =
+    stored (λ (l : List ℕ). set (set (set l 13 p) 14 a) 15 n)
+    (λ (k : Condition). withPending k (pendingOf p a n)) (search) s h
 
 -- how many user characters there are
 abbrev withCount : Condition → ℕ → Condition
@@ -92,11 +97,28 @@ pub count-in : (s : List ℕ) (n : ℕ) → 200 ≤ length s → conditionIn (se
 unfolding conditionIn
 count-in s n h = stored (λ (l : List ℕ). set l 20 n) (λ (k : Condition). withCount k n) (search) s h
 
-pub release-in : (s : List ℕ) → 200 ≤ length s → conditionIn (set (set (set (set s 16 0) 17 0) 18 0) 19 0) ≡ releasedIn (conditionIn s)
+pub release-in : (s : List ℕ) → 200 ≤ length s
+    → conditionIn (set (set (set (set s 16 0) 17 0) 18 0) 19 0) ≡ releasedIn (conditionIn s)
 unfolding conditionIn
-release-in s h = stored (λ (l : List ℕ). set (set (set (set l 16 0) 17 0) 18 0) 19 0) (λ (k : Condition). releasedIn k) (search) s h
+release-in s h =
+    stored (λ (l : List ℕ). set (set (set (set l 16 0) 17 0) 18 0) 19 0) (λ (k : Condition). releasedIn k) (search) s h
 
-pub ruleset stores = (cursor-in, go-in, scrolling-in, mode-in, shown-in, international-in, font-in, euro-in, luminance-in, speed-in, flickerless-in, pending-in, count-in, release-in)
+pub ruleset stores = (
+  cursor-in,
+  go-in,
+  scrolling-in,
+  mode-in,
+  shown-in,
+  international-in,
+  font-in,
+  euro-in,
+  luminance-in,
+  speed-in,
+  flickerless-in,
+  pending-in,
+  count-in,
+  release-in,
+)
 
 -- a byte among the four held
 pub hold-in : (s : List ℕ) (n d : ℕ) → n < 4 → 200 ≤ length s → conditionIn (set s (16 + n) d) ≡ heldIn (conditionIn s) n d
@@ -169,33 +191,13 @@ EachPart (suc n) P = (a : ℕ) → EachPart n (λ (l : List ℕ). P (a ∷ l))
 each-part : (n : ℕ) (P : List ℕ → Type 0) → EachPart n P → (s : List ℕ) → n + 176 ≤ length s → P s
 unfolding EachPart
 each-part zero P f r h =
-    let a : length (take 40 r) ≡ 40 = length-take-le 40 r (omega arith) in
-    let b : length (take 40 (drop 40 r)) ≡ 40 = length-take-le 40 (drop 40 r) (simp length-drop (omega arith)) in
-    let c : length (take 96 (drop 40 (drop 40 r))) ≡ 96 = length-take-le 96 (drop 40 (drop 40 r)) (simp length-drop (omega arith)) in
-    let e : P (take 40 r ++ (take 40 (drop 40 r) ++ (take 96 (drop 40 (drop 40 r)) ++ drop 96 (drop 40 (drop 40 r))))) =
-    f (take 40 r) (take 40 (drop 40 r)) (take 96 (drop 40 (drop 40 r))) (drop 96 (drop 40 (drop 40 r))) a b c in
-    rw (take-append-drop, take-append-drop, take-append-drop) at e
+    let cut : take 40 r ++ (take 40 (drop 40 r) ++ (take 96 (drop 80 r) ++ drop 176 r)) ≡ r = sym (cut-parts 0 r) in
+    let codes : length (take 40 r) ≡ 40 = part-length 0 40 r (omega arith) in
+    let fonts = part-length 40 40 r (omega arith) in
+    let users = part-length 80 96 r (omega arith) in
+    rw cut at (f (take 40 r) (take 40 (drop 40 r)) (take 96 (drop 80 r)) (drop 176 r) codes fonts users)
 each-part (suc n) P f [] h = let z : ⊥ = omega arith in absurd z
 each-part (suc n) P f (a ∷ s) h = each-part n (λ (l : List ℕ). P (a ∷ l)) (f a) s (omega arith)
-
-module _ (p q w z : List ℕ) (hp : length p ≡ 40) (hq : length q ≡ 40) (hw : length w ≡ 96) where
-  in-codes : take 40 (p ++ (q ++ (w ++ z))) ≡ p
-  in-codes = take-at p (q ++ (w ++ z)) 40 hp
-
-  past-codes : drop 40 (p ++ (q ++ (w ++ z))) ≡ q ++ (w ++ z)
-  past-codes = drop-at p (q ++ (w ++ z)) 40 hp
-
-  past-fonts : drop 80 (p ++ (q ++ (w ++ z))) ≡ w ++ z
-  past-fonts = sym (drop-drop 40 40 (p ++ (q ++ (w ++ z)))) ∙ ap (drop 40) past-codes ∙ drop-at q (w ++ z) 40 hq
-
-  up-to-fonts : take 80 (p ++ (q ++ (w ++ z))) ≡ p ++ q
-  up-to-fonts = take-add 40 40 (p ++ (q ++ (w ++ z))) ∙ rw (in-codes, past-codes) (ap (λ (l : List ℕ). p ++ l) (take-at q (w ++ z) 40 hq))
-
-  in-fonts : take 40 (drop 40 (p ++ (q ++ (w ++ z)))) ≡ q
-  in-fonts = rw past-codes (take-at q (w ++ z) 40 hq)
-
-  in-users : take 96 (drop 80 (p ++ (q ++ (w ++ z)))) ≡ w
-  in-users = rw past-fonts (take-at w z 96 hw)
 
 -- the cells, codes and fonts, replaced
 cells-in : (s x y : List ℕ) → 200 ≤ length s → length x ≡ 40 → length y ≡ 40
@@ -219,7 +221,8 @@ fonts-kept : (s x : List ℕ) → 200 ≤ length s → length x ≡ 40 → take 
 unfolding EachPart
 fonts-kept s x h hx =
     each-part 24 (λ (s : List ℕ). take 40 (drop 64 (spliced 24 40 s x)) ≡ take 40 (drop 64 s))
-    (λ a0 a1 a2 a3 a4 a5 a6 a7 a8 a9 a10 a11 a12 a13 a14 a15 a16 a17 a18 a19 a20 a21 a22 a23 p q w z hp hq hw. rw (past-codes p q w z hp hq hw, in-fonts x q w z hx hq hw) (sym (take-at q (w ++ z) 40 hq)))
+    (λ a0 a1 a2 a3 a4 a5 a6 a7 a8 a9 a10 a11 a12 a13 a14 a15 a16 a17 a18 a19 a20 a21 a22 a23 p q w z hp hq hw.
+    rw (past-codes p q w z hp hq hw, in-fonts x q w z hx hq hw) (sym (take-at q (w ++ z) 40 hq)))
     s (omega arith)
 
 users-in : (s x : List ℕ) → 200 ≤ length s → length x ≡ 96 → conditionIn (spliced 104 96 s x) ≡ withUserBytes (conditionIn s) x
@@ -239,14 +242,11 @@ users-in s x h hx =
     ))
     s (omega arith)
 
--- a part's length
-part-40 : (a : ℕ) (s : List ℕ) → a + 40 ≤ length s → length (take 40 (drop a s)) ≡ 40
-part-40 a s h = length-take-le 40 (drop a s) (simp length-drop (omega arith))
-
 -- codes and fonts, each changed by its own rule
 pub cells-by : (f g : List ℕ → List ℕ) (s x y : List ℕ) → 200 ≤ length s → length x ≡ 40 → length y ≡ 40
     → x ≡ f (take 40 (drop 24 s)) → y ≡ g (take 40 (drop 64 (spliced 24 40 s x)))
-    → conditionIn (spliced 64 40 (spliced 24 40 s x) y) ≡ withCells (conditionIn s) (f (conditionIn s .codes)) (g (conditionIn s .fonts))
+    → conditionIn (spliced 64 40 (spliced 24 40 s x) y)
+    ≡ withCells (conditionIn s) (f (conditionIn s .codes)) (g (conditionIn s .fonts))
 unfolding conditionIn
 cells-by f g s x y h hx hy p q =
     let k : y ≡ g (take 40 (drop 64 s)) = q ∙ ap g (fonts-kept s x h hx) in
@@ -255,11 +255,12 @@ cells-by f g s x y h hx hy p q =
 -- the same by rules for pictures
 pub pictures-by : (f g : List ℕ → List ℕ) (s x y : List ℕ) → 200 ≤ length s → length x ≡ 40 → length y ≡ 40
     → x ≡ onPicture f (take 40 (drop 24 s)) → y ≡ onPicture g (take 40 (drop 64 (spliced 24 40 s x)))
-    → conditionIn (spliced 64 40 (spliced 24 40 s x) y) ≡ withCells (conditionIn s) (f (conditionIn s .codes)) (g (conditionIn s .fonts))
+    → conditionIn (spliced 64 40 (spliced 24 40 s x) y)
+    ≡ withCells (conditionIn s) (f (conditionIn s .codes)) (g (conditionIn s .fonts))
 pictures-by f g s x y h hx hy p q =
     cells-by f g s x y h hx hy
-    (p ∙ pictured f _ (part-40 24 s (omega arith)))
-    (q ∙ rw (fonts-kept s x h hx) (pictured g _ (part-40 64 s (omega arith))))
+    (p ∙ pictured f _ (part-length 24 40 s (omega arith)))
+    (q ∙ rw (fonts-kept s x h hx) (pictured g _ (part-length 64 40 s (omega arith))))
 
 -- both cleared
 pub blank-by : (s x y : List ℕ) (f : ℕ) → 200 ≤ length s → length x ≡ 40 → length y ≡ 40
@@ -267,23 +268,23 @@ pub blank-by : (s x y : List ℕ) (f : ℕ) → 200 ≤ length s → length x �
     → conditionIn (spliced 64 40 (spliced 24 40 s x) y) ≡ blankOf (conditionIn s) f
 blank-by s x y f h hx hy p q =
     cells-by (λ (l : List ℕ). replicate 40 0x20) (λ (l : List ℕ). replicate 40 f) s x y h hx hy
-    (p ∙ rw (part-40 24 s (omega arith)))
-    (q ∙ rw (fonts-kept s x h hx, part-40 64 s (omega arith)))
+    (p ∙ rw (part-length 24 40 s (omega arith)))
+    (q ∙ rw (fonts-kept s x h hx, part-length 64 40 s (omega arith)))
 
 -- the user characters' bytes, all 0
 pub forget-by : (s x : List ℕ) → 200 ≤ length s → length x ≡ 96 → x ≡ replicate (length (take 96 (drop 104 s))) 0
     → conditionIn (spliced 104 96 s x) ≡ withUserBytes (conditionIn s) (replicate 96 0)
 forget-by s x h hx p =
-    let l : length (take 96 (drop 104 s)) ≡ 96 = length-take-le 96 (drop 104 s) (simp length-drop (omega arith)) in
-    users-in s x h hx ∙ rw (p, l)
+    users-in s x h hx ∙ rw (p, part-length 104 96 s (omega arith))
 
 -- the user characters' bytes and count after a definition
 pub define-by : (s x : List ℕ) (n code last : ℕ) → 200 ≤ length s → length x ≡ 96 → 200 ≤ length (spliced 104 96 s x)
-    → usersIn x n ≡ defineIn (take 96 (drop 104 s)) (getD s 20 0) code (getD s 16 0 ∷ getD s 17 0 ∷ getD s 18 0 ∷ getD s 19 0 ∷ []) last
+    → usersIn x n
+    ≡ defineIn (take 96 (drop 104 s)) (getD s 20 0) code (getD s 16 0 ∷ getD s 17 0 ∷ getD s 18 0 ∷ getD s 19 0 ∷ []) last
     → conditionIn (set (spliced 104 96 s x) 20 n) ≡ definedIn (conditionIn s) code last
 unfolding defineIn
 define-by s x n code last h hx hl e =
-    let l : length (take 96 (drop 104 s)) ≡ 96 = length-take-le 96 (drop 104 s) (simp length-drop (omega arith)) in
+    let l = part-length 104 96 s (omega arith) in
     count-in (spliced 104 96 s x) n hl ∙ ap (λ (k : Condition). withCount k n) (users-in s x h hx)
     ∙ ap (withUsers (conditionIn s)) (e ∙ rw (eq-eqb _ 96 l, users-at s, held-in s h))
 
@@ -298,5 +299,4 @@ reset-in s f h = stored (λ (l : List ℕ). spliced 3 18 l (freshHead f)) (λ (k
 pub reset-by : (s x : List ℕ) (f : ℕ) → 200 ≤ length s → x ≡ laid (freshHead f) (take 18 (drop 3 s))
     → conditionIn (spliced 3 18 s x) ≡ resetIn (conditionIn s) f
 reset-by s x f h e =
-    let l : length (take 18 (drop 3 s)) ≡ 18 = length-take-le 18 (drop 3 s) (simp length-drop (omega arith)) in
-    rw (e, filled (freshHead f) (take 18 (drop 3 s)) 18 refl l) (reset-in s f h)
+    rw (e, filled (freshHead f) (take 18 (drop 3 s)) 18 refl (part-length 3 18 s (omega arith))) (reset-in s f h)

@@ -5,8 +5,8 @@ use mathlib.Core.Bool.{Bool, true, false}
 use mathlib.Core.List.{List, [], _∷_, _++_, append-assoc, append-nil}
 use native.Mathlib.Omega.{arith}
 use lib.Dec.{eqb}
-use lib.ListN.{length, getD, take, drop, replicate, length-append, length-drop}
-use lib.Seq.{take-at, drop-at, drop-drop, length-take-le, ext-getD}
+use lib.ListN.{length, getD, take, drop, replicate, length-append}
+use lib.Seq.{ext-getD}
 use borrow.Author.Tests.{ne-eqb, lt-ltb, le-ltb}
 use Rattle.row.specs.Row.{laid}
 use Rattle.condition.specs.declared.Condition.{Condition}
@@ -15,7 +15,7 @@ use Rattle.condition.specs.declared.Pending.the-variants.{Nothing, Escape, Posi
 use Rattle.condition.specs.Condition.{heldOf, powerUp}
 use Rattle.layout.specs.Layout.{flag, kindOf, codeOf, headOf, packedOf, pendingOf, conditionIn, unpackedOf}
 use Rattle.condition.proofs.Good.{Sized}
-use Rattle.layout.proofs.Parts.{copied}
+use Rattle.layout.proofs.Parts.{part-length, copied, cut-parts, in-codes, in-fonts, in-users}
 
 -- bytes that hold a condition, and bytes that are too few
 pub enough : (s : List ℕ) → 200 ≤ length s → unpackedOf s ≡ conditionIn s
@@ -35,10 +35,10 @@ pub sized-in : (s : List ℕ) → 200 ≤ length s → Sized (conditionIn s)
 unfolding conditionIn
 sized-in s h =
     record {
-      codes-40 = length-take-le 40 (drop 24 s) (simp length-drop (omega arith));
-      fonts-40 = length-take-le 40 (drop 64 s) (simp length-drop (omega arith));
-      users-96 = length-take-le 96 (drop 104 s) (simp length-drop (omega arith));
-      held-4 = length-take-le 4 (drop 16 s) (simp length-drop (omega arith));
+      codes-40 = part-length 24 40 s (omega arith);
+      fonts-40 = part-length 64 40 s (omega arith);
+      users-96 = part-length 104 96 s (omega arith);
+      held-4 = part-length 16 4 s (omega arith);
     }
 
 -- the parts of the first 200 bytes, copied out, and the fields
@@ -66,12 +66,15 @@ pub unpacking : (s x y w h : List ℕ) (p : Pending) → 200 ≤ length s → x 
     (conditionIn s)
 unfolding conditionIn
 unpacking s x y w h p l ex ey ew eh ep =
-    rw (ex, ey, ew, eh, ep, copied s 24 40 (omega arith), copied s 64 40 (omega arith), copied s 104 96 (omega arith), copied s 16 4 (omega arith))
+    rw (ex, ey, ew, eh, ep, copied s 24 40 (omega arith), copied s 64 40 (omega arith))
+    (rw (copied s 104 96 (omega arith), copied s 16 4 (omega arith)))
 
 -- a kind that is none of 0 to 5
 pub above : (k a n : ℕ) → 5 < k → UserData a n ≡ pendingOf k a n
 above k a n h =
-    rw (ne-eqb k 0 (λ e. omega arith), ne-eqb k 1 (λ e. omega arith), ne-eqb k 2 (λ e. omega arith), ne-eqb k 3 (λ e. omega arith), ne-eqb k 4 (λ e. omega arith), ne-eqb k 5 (λ e. omega arith))
+    let other : (i : ℕ) → i ≤ 5 → eqb k i ≡ false = λ i l. ne-eqb k i (λ e. omega arith) in
+    rw (other 0 (omega arith), other 1 (omega arith), other 2 (omega arith), other 3 (omega arith))
+    (rw (other 4 (omega arith), other 5 (omega arith)))
 
 pending-back : (p : Pending) → pendingOf (kindOf p) (codeOf p) (heldOf p) ≡ p
 pending-back Nothing = refl
@@ -100,15 +103,14 @@ held-back h e = ext-getD 0 _ h (sym e) (λ i lt. four i lt h)
 pub back-with : (c : Condition) (r : List ℕ) → Sized c → conditionIn (packedOf c ++ r) ≡ c
 unfolding conditionIn packedOf headOf
 back-with c r z =
-    let s : List ℕ = packedOf c ++ r in
-    let r₃ : List ℕ = c .users .bytes ++ r in
-    let r₂ : List ℕ = c .fonts ++ r₃ in
-    let e₁ : drop 24 s ≡ c .codes ++ r₂ = simp append-assoc in
-    let e₂ : drop 64 s ≡ r₂ = sym (drop-drop 40 24 s) ∙ ap (drop 40) e₁ ∙ drop-at (c .codes) r₂ 40 (z .codes-40) in
-    let e₃ : drop 104 s ≡ r₃ = sym (drop-drop 40 64 s) ∙ ap (drop 40) e₂ ∙ drop-at (c .fonts) r₃ 40 (z .fonts-40) in
-    let codes = ap (take 40) e₁ ∙ take-at (c .codes) r₂ 40 (z .codes-40) in
-    let fonts = ap (take 40) e₂ ∙ take-at (c .fonts) r₃ 40 (z .fonts-40) in
-    let users = ap (take 96) e₃ ∙ take-at (c .users .bytes) r 96 (z .users-96) in
+    let u : List ℕ = c .users .bytes in
+    let e : drop 24 (packedOf c ++ r) ≡ c .codes ++ (c .fonts ++ (u ++ r)) = simp append-assoc in
+    let codes : take 40 (drop 24 (packedOf c ++ r)) ≡ c .codes =
+    ap (take 40) e ∙ in-codes (c .codes) (c .fonts) u r (z .codes-40) (z .fonts-40) (z .users-96) in
+    let fonts : take 40 (drop 64 (packedOf c ++ r)) ≡ c .fonts =
+    ap (λ (l : List ℕ). take 40 (drop 40 l)) e ∙ in-fonts (c .codes) (c .fonts) u r (z .codes-40) (z .fonts-40) (z .users-96) in
+    let users : take 96 (drop 104 (packedOf c ++ r)) ≡ u =
+    ap (λ (l : List ℕ). take 96 (drop 80 l)) e ∙ in-users (c .codes) (c .fonts) u r (z .codes-40) (z .fonts-40) (z .users-96) in
     λ i. record {
       codes = codes i;
       fonts = fonts i;
@@ -129,3 +131,12 @@ back-with c r z =
 
 pub packed-back : (c : Condition) → Sized c → conditionIn (packedOf c) ≡ c
 packed-back c z = ap conditionIn (sym (append-nil (packedOf c))) ∙ back-with c [] z
+
+-- and the condition that stands in bytes, packed again, differs from them in its head alone
+pub repacked : (s : List ℕ) → packedOf (conditionIn s) ++ drop 200 s ≡ headOf (conditionIn s) ++ drop 24 s
+unfolding packedOf conditionIn
+repacked s =
+    let flat : packedOf (conditionIn s) ++ drop 200 s
+    ≡ headOf (conditionIn s) ++ (take 40 (drop 24 s) ++ (take 40 (drop 64 s) ++ (take 96 (drop 104 s) ++ drop 200 s))) =
+    simp append-assoc in
+    flat ∙ ap (λ (l : List ℕ). headOf (conditionIn s) ++ l) (sym (cut-parts 24 s))

@@ -1,19 +1,60 @@
--- Parts of a row of bytes, laid one after the other and copied out again.
+-- Parts of a row of bytes: laid one after the other, copied out again, and where the first 200 bytes are cut.
 use Prim.Native.Nat.{ℕ, _+_, _≤_}
-use mathlib.Core.Path.{_≡_, refl, sym, _∙_}
+use mathlib.Core.Path.{_≡_, refl, ap, sym, _∙_}
 use mathlib.Core.List.{List, [], _++_, append-assoc, append-nil}
 use native.Mathlib.Omega.{arith}
-use lib.ListN.{length, take, drop, replicate, length-append, length-drop, length-replicate, drop-of-length-le}
-use lib.Seq.{take-at, drop-at, take-all, length-take-le}
+use lib.ListN.{length, take, drop, replicate, length-append, length-drop, length-replicate, drop-of-length-le, take-append-drop}
+use lib.Seq.{take-at, drop-at, drop-drop, take-add, length-take-le}
 use Rattle.row.specs.Row.{laid}
 use Rattle.row.proofs.Laws.{filled}
 
+-- a part has its length
+pub part-length : (at n : ℕ) (s : List ℕ) → at + n ≤ length s → length (take n (drop at s)) ≡ n
+part-length at n s h = length-take-le n (drop at s) (simp length-drop (omega arith))
+
 -- a part, copied to a place of its own
 pub copied : (s : List ℕ) (at n : ℕ) → at + n ≤ length s → laid (take n (drop at s)) (replicate n 0) ≡ take n (drop at s)
-copied s at n h = filled (take n (drop at s)) (replicate n 0) n (length-take-le n (drop at s) (simp length-drop (omega arith))) (length-replicate n 0)
+copied s at n h = filled (take n (drop at s)) (replicate n 0) n (part-length at n s h) (length-replicate n 0)
+
+-- Cut into parts -------------------------------------------------------------------------------------------------------------
+
+-- n bytes, and what stands behind them
+pub cut : (at n : ℕ) (s : List ℕ) → drop at s ≡ take n (drop at s) ++ drop (at + n) s
+cut at n s = rw (← drop-drop n at s) (sym (take-append-drop n (drop at s)))
+
+-- from `at` on: codes, fonts, user characters, and what stands behind them
+pub cut-parts : (at : ℕ) (s : List ℕ) → drop at s
+    ≡ take 40 (drop at s) ++ (take 40 (drop (at + 40) s) ++ (take 96 (drop (at + 40 + 40) s) ++ drop (at + 40 + 40 + 96) s))
+cut-parts at s =
+    cut at 40 s ∙ ap (λ (l : List ℕ). take 40 (drop at s) ++ l)
+    (cut (at + 40) 40 s ∙ ap (λ (l : List ℕ). take 40 (drop (at + 40) s) ++ l) (cut (at + 40 + 40) 96 s))
+
+-- codes p, fonts q and user characters w, and z behind them
+module _ (p q w z : List ℕ) (hp : length p ≡ 40) (hq : length q ≡ 40) (hw : length w ≡ 96) where
+  pub in-codes : take 40 (p ++ (q ++ (w ++ z))) ≡ p
+  in-codes = take-at p (q ++ (w ++ z)) 40 hp
+
+  pub past-codes : drop 40 (p ++ (q ++ (w ++ z))) ≡ q ++ (w ++ z)
+  past-codes = drop-at p (q ++ (w ++ z)) 40 hp
+
+  pub past-fonts : drop 80 (p ++ (q ++ (w ++ z))) ≡ w ++ z
+  past-fonts = sym (drop-drop 40 40 (p ++ (q ++ (w ++ z)))) ∙ ap (drop 40) past-codes ∙ drop-at q (w ++ z) 40 hq
+
+  pub up-to-fonts : take 80 (p ++ (q ++ (w ++ z))) ≡ p ++ q
+  up-to-fonts =
+      take-add 40 40 (p ++ (q ++ (w ++ z)))
+      ∙ rw (in-codes, past-codes) (ap (λ (l : List ℕ). p ++ l) (take-at q (w ++ z) 40 hq))
+
+  pub in-fonts : take 40 (drop 40 (p ++ (q ++ (w ++ z)))) ≡ q
+  in-fonts = rw past-codes (take-at q (w ++ z) 40 hq)
+
+  pub in-users : take 96 (drop 80 (p ++ (q ++ (w ++ z)))) ≡ w
+  in-users = rw past-fonts (take-at w z 96 hw)
+
+-- Laid one after the other -----------------------------------------------------------------------------------------------------
 
 -- the next part q, laid behind p
-pub next : (l p t q x : List ℕ) (a n : ℕ) → l ≡ p ++ t → length p ≡ a → length q ≡ n → n ≤ length t → x ≡ laid q (take n (drop a l))
+next : (l p t q x : List ℕ) (a n : ℕ) → l ≡ p ++ t → length p ≡ a → length q ≡ n → n ≤ length t → x ≡ laid q (take n (drop a l))
     → take a l ++ (x ++ drop n (drop a l)) ≡ (p ++ q) ++ drop n t
 next l p t q x a n e hp hq h ex =
     let d : drop a l ≡ t = rw e (drop-at p t a hp) in

@@ -159,7 +159,7 @@ fn lay(
     first: &[u8; CODES],
     codes: &[u8; Condition::CELLS],
     fonts: &[u8; Condition::CELLS],
-    chars: &[u8; 96],
+    chars: &[u8; Users::BYTES],
 )
     requires { ⌜ length (now s) ≡ 200 ⌝ }
     ensures { λ _. ⌜ now (s .exit) ≡ now (first .entry) ++ (now (codes .entry) ++ (now (fonts .entry) ++ now (chars .entry))) ⌝ }
@@ -191,7 +191,7 @@ fn unpack(s: &[u8]) -> Condition
 {
     let mut codes = [0u8; Condition::CELLS];
     let mut fonts = [0u8; Condition::CELLS];
-    let mut bytes = [0u8; 96];
+    let mut bytes = [0u8; Users::BYTES];
     let mut held = [0u8; Condition::HELD];
     row::copy(&mut codes, &s[CODES..FONTS]);
     row::copy(&mut fonts, &s[FONTS..USERS]);
@@ -244,7 +244,8 @@ fn numbers_in(s: &[u8]) -> bool
         & (s[LINK] <= Condition::LAST_FONT)
         & (s[LUMINANCE] <= Condition::FULL_LUMINANCE)
         & (s[COUNT] <= Condition::MOST_USERS)
-        & (!(s[SCROLLING] == 1) | ((s[MODE] == 3) & (s[CURSOR] % Condition::COLUMNS == 19)))
+        & (!(s[SCROLLING] == 1)
+            | ((s[MODE] == 3) & (s[CURSOR] % Condition::COLUMNS == Condition::LAST_COLUMN)))
 }
 
 fn formed_in(s: &[u8]) -> bool

@@ -5,7 +5,8 @@ use mathlib.Core.List.{List, _++_, append-assoc, append-nil}
 use native.Mathlib.Omega.{arith}
 use native.Mathlib.Numerals.{add-one}
 use lib.ListN.{length, getD, take, drop, set, replicate, length-drop, replicate-append-replicate, drop-of-length-le}
-use lib.Seq.{paste, paste-suc, drop-paste, getD-drop, take-all, drop-cons, set-at, length-paste-head, take-suc-set, take-paste, take-suc, drop-length, append-snoc, length-take-le}
+use lib.Seq.{paste, paste-suc, drop-paste, getD-drop, take-all, drop-cons, set-at, length-paste-head, take-suc-set, take-paste}
+use lib.Seq.{take-suc, drop-length, append-snoc, length-take-le}
 use mathlib.Core.Bool.{Bool, true, false}
 use lib.Dec.{leb}
 use borrow.Author.Tests.{leb-true, leb-false, eq-eqb}
@@ -22,7 +23,8 @@ paste-turn d s out to from i e h k =
 pub copy-turn : (d s out : List ℕ) (i : ℕ) → out ≡ take i s ++ drop i d → i < length d → i < length s
     → set out i (getD s i 0) ≡ take (i + 1) s ++ drop (i + 1) d
 copy-turn d s out i e h k =
-    rw (e, drop-cons d i 0 h, set-at (take i s) (getD d i 0) (drop (suc i) d) (getD s i 0) i (length-take-le i s (omega arith)), add-one, take-suc s i 0 k)
+    let l : length (take i s) ≡ i = length-take-le i s (omega arith) in
+    rw (e, drop-cons d i 0 h, set-at (take i s) (getD d i 0) (drop (suc i) d) (getD s i 0) i l, add-one, take-suc s i 0 k)
     (sym (append-snoc (take i s) (getD s i 0) (drop (suc i) d)))
 
 -- the same where the cells are moved in place
@@ -44,8 +46,8 @@ fill-turn d out from i v h k e =
     rw (add-one, take-suc-set out i v k, e, append-assoc, ← add-one, n)
     (ap (λ (r : List ℕ). take from d ++ r) (replicate-append-replicate (i - from) 1 v))
 
-pub fill-done : (d out : List ℕ) (from i v : ℕ) → i ≡ length out → length out ≡ length d → take i out ≡ take from d ++ replicate (i - from) v
-    → out ≡ take from d ++ replicate (length d - from) v
+pub fill-done : (d out : List ℕ) (from i v : ℕ) → i ≡ length out → length out ≡ length d
+    → take i out ≡ take from d ++ replicate (i - from) v → out ≡ take from d ++ replicate (length d - from) v
 fill-done d out from i v h k e =
     let l : length out ≤ i = omega arith in
     let n : i ≡ length d = omega arith in
@@ -73,8 +75,9 @@ shift-law a start v h k =
     let l : start + 19 < length a = omega arith in
     let n : 19 ≤ length (drop (start + 1) a) = simp length-drop (omega arith) in
     let e : suc (start + 19) ≡ start + 20 = omega arith in
-    rw (drop-cons a (start + 19) 0 l, e)
-    (set-at (take start a ++ take 19 (drop (start + 1) a)) _ _ v (start + 19) (length-paste-head a start (drop (start + 1) a) 19 (omega arith) n))
+    let head : List ℕ = take start a ++ take 19 (drop (start + 1) a) in
+    let m : length head ≡ start + 19 = length-paste-head a start (drop (start + 1) a) 19 (omega arith) n in
+    rw (drop-cons a (start + 19) 0 l, e) (set-at head _ _ v (start + 19) m)
 
 pub advance-law : (a : List ℕ) (by n : ℕ) → by ≤ length a → n ≡ length a - by → paste a 0 (drop (0 + by) a) n ≡ advanced by a
 unfolding advanced

@@ -17,7 +17,8 @@ pub place-below : (us : List ℕ) (code n k j : ℕ) → placeOf us code n k ≡
 place-below us code zero k j e = let z : _≡_ {A = ℕ} 0 1 = cc in omega arith
 place-below us code (suc n) k j e = go (eqb (getD us (k * 6) 0) code) e (λ h. place-below us code n (k + 1) j h)
   where
-    go : (t : Bool) → cond t (At k) (placeOf us code n (k + 1)) ≡ At j → (placeOf us code n (k + 1) ≡ At j → j < k + 1 + n) → j < k + suc n
+    go : (t : Bool) → cond t (At k) (placeOf us code n (k + 1)) ≡ At j → (placeOf us code n (k + 1) ≡ At j → j < k + 1 + n)
+        → j < k + suc n
     go true h l = let z : k ≡ j = cc in omega arith
     go false h l = let m : j < k + 1 + n = l h in omega arith
 

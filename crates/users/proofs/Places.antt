@@ -32,7 +32,8 @@ defined-96 : (f : Found) (u : Users) (code : ℕ) (held : List ℕ) (last : ℕ)
 unfolding definedAt
 defined-96 (At k) u code held last h = put-length (u .bytes) (k * 6) code held last ∙ h
 defined-96 Missing u code held last h =
-    by-test (λ (v : Users). length (v .bytes) ≡ 96) (ltb (u .count) 16) (λ _. put-length (u .bytes) (u .count * 6) code held last ∙ h)
+    by-test (λ (v : Users). length (v .bytes) ≡ 96) (ltb (u .count) 16)
+    (λ _. put-length (u .bytes) (u .count * 6) code held last ∙ h)
     (λ _. put-length (advanced 6 (u .bytes)) 90 code held last ∙ advanced-length 6 (u .bytes) (omega arith) ∙ h)
 
 pub define-96 : (u : Users) (code : ℕ) (held : List ℕ) (last : ℕ)
@@ -156,7 +157,8 @@ unfolding advanced
 advanced-at us i j h l k =
     let m : i * 6 + j < length (drop 6 us) = simp length-drop (omega arith) in
     let e : 6 + (i * 6 + j) ≡ (i + 1) * 6 + j = omega arith in
-    List·getD-append (drop 6 us) (drop (length us - 6) us) 0 (i * 6 + j) m ∙ getD-drop 6 us (i * 6 + j) 0 ∙ ap (λ (n : ℕ). getD us n 0) e
+    List·getD-append (drop 6 us) (drop (length us - 6) us) 0 (i * 6 + j) m ∙ getD-drop 6 us (i * 6 + j) 0
+    ∙ ap (λ (n : ℕ). getD us n 0) e
 
 -- A user character that is defined keeps the places well formed -----------------------------------------------------------------
 
@@ -201,9 +203,12 @@ module _ (u : Users) (code : ℕ) (held : List ℕ) (last : ℕ) (h : length (u 
         fifth = λ i m d. rw (advanced-at (u .bytes) i 5 h (omega arith) (omega arith)) (p .fifth (i + 1) (omega (arith, full t)));
         apart =
             λ i j m n y z e.
-            omega (arith, p .apart (i + 1) (j + 1) (omega (arith, full t)) (omega (arith, full t)) (sym (older i (omega arith)) ∙ e ∙ older j (omega arith)));
+            let same : getD (u .bytes) ((i + 1) * 6) 0 ≡ getD (u .bytes) ((j + 1) * 6) 0 =
+            sym (older i (omega arith)) ∙ e ∙ older j (omega arith) in
+            omega (arith, p .apart (i + 1) (j + 1) (omega (arith, full t)) (omega (arith, full t)) same);
         new = λ i m d y. f (i + 1) (omega (arith, full t)) (sym (older i (omega arith)) ∙ y);
-        rest = λ i m. List·getD-eq-default (advanced 6 (u .bytes)) 0 (rw (advanced-length 6 (u .bytes) (omega arith)) (omega arith));
+        rest =
+            λ i m. List·getD-eq-default (advanced 6 (u .bytes)) 0 (rw (advanced-length 6 (u .bytes) (omega arith)) (omega arith));
       })
       (omega arith)
       (rw (advanced-length 6 (u .bytes) (omega arith)) (omega arith))

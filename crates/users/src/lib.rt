@@ -6,8 +6,20 @@ ghost use Rattle.users.specs.Users.{limitOf, foundIn, isFound, character
 use dots::Character;
 
 pub struct Users {
-    pub bytes: [u8; 96],
+    pub bytes: [u8; Users::BYTES],
     pub count: u8,
+}
+
+impl Users {
+    // How many there may be, the bytes of a place, and those of all places.
+    pub const MOST: u8 = 16;
+
+    pub const PLACE: usize = 6;
+
+    pub const BYTES: usize = 96;
+
+    // Where the last place begins.
+    const LAST: usize = 90;
 }
 
 // The lookup of a code: its place, counted from the oldest, or none.
@@ -20,7 +32,7 @@ pub enum Found {
 fn limit(bytes: &[u8], count: u8) -> usize
     ensures { λ r. ⌜ (r ≡ limitOf (now (bytes .entry)) count) × (6 * r ≤ length (now (bytes .entry))) ⌝ }
 {
-    let room = bytes.len() / 6;
+    let room = bytes.len() / Users::PLACE;
     let n = count as usize;
     if n < room { n } else { room }
 }
@@ -32,7 +44,7 @@ pub fn find(bytes: &[u8], count: u8, code: u8) -> Found
     let n = limit(bytes, count);
     let mut k: usize = 0;
     while k < n {
-        if bytes[k * 6] == code {
+        if bytes[k * Users::PLACE] == code {
             return Found::At(k);
         }
         k += 1;
@@ -53,7 +65,7 @@ pub fn is_found(f: Found) -> bool
 pub fn character_at(bytes: &[u8], place: usize) -> Character
     ensures { λ r. ⌜ r ≡ characterAt (now (bytes .entry)) place ⌝ }
 {
-    if bytes.len() / 6 <= place {
+    if bytes.len() / Users::PLACE <= place {
         return Character {
             d1: 0,
             d2: 0,
@@ -62,7 +74,7 @@ pub fn character_at(bytes: &[u8], place: usize) -> Character
             d5: 0,
         };
     }
-    let at = place * 6;
+    let at = place * Users::PLACE;
     Character {
         d1: bytes[at + 1],
         d2: bytes[at + 2],
@@ -90,21 +102,21 @@ fn put(bytes: &mut [u8], at: usize, code: u8, held: [u8; 4], last: u8)
 pub fn define(bytes: &mut [u8], count: u8, code: u8, held: [u8; 4], last: u8) -> u8
     ensures { λ r. ⌜ usersIn (now (bytes .exit)) r ≡ defineIn (now (bytes .entry)) count code held last ⌝ }
 {
-    if bytes.len() != 96 {
+    if bytes.len() != Users::BYTES {
         return count;
     }
     let low = last % 16;
     let f = find(bytes, count, code);
     if let Found::At(k) = f {
-        put(bytes, k * 6, code, held, low);
+        put(bytes, k * Users::PLACE, code, held, low);
         return count;
     }
-    if count < 16 {
-        let at = (count as usize) * 6;
+    if count < Users::MOST {
+        let at = (count as usize) * Users::PLACE;
         put(bytes, at, code, held, low);
         return count + 1;
     }
-    row::advance(bytes, 6);
-    put(bytes, 90, code, held, low);
+    row::advance(bytes, Users::PLACE);
+    put(bytes, Users::LAST, code, held, low);
     count
 }

@@ -11,7 +11,8 @@ use Rattle.block.proofs.weighed.Statement.{statement}
 use Rattle.block.proofs.weighed.Tie as tie
 
 -- a turn, and the end
-turned : (s : List ℕ) (sum p i t : ℕ) → i < length s → sum + weigh p (drop i s) ≡ t → sum + p * getD s i 0 + weigh (p + 1) (drop (i + 1) s) ≡ t
+turned : (s : List ℕ) (sum p i t : ℕ) → i < length s → sum + weigh p (drop i s) ≡ t
+    → sum + p * getD s i 0 + weigh (p + 1) (drop (i + 1) s) ≡ t
 unfolding weigh
 turned s sum p i t inside e =
     let f : sum + (p * getD s i 0 + weigh (p + 1) (drop (suc i) s)) ≡ t = rw (drop-cons s i 0 inside) at e in
@@ -25,7 +26,8 @@ product : (p b : ℕ) → p ≤ 510 → b < 256 → p * b ≤ 130050
 product p b hp hb = let hb′ : b ≤ 255 = omega arith in mul-le-mul hp hb′
 
 abbrev Inv-loop : tie.InvT-loop
-Inv-loop s sum₀ place₀ i₀ sum place i = (sum + weigh place (drop i s) ≡ weigh 1 s) × (i ≤ length s) × (place ≡ i + 1) × (sum ≤ 130050 * i)
+Inv-loop s sum₀ place₀ i₀ sum place i =
+    (sum + weigh place (drop i s) ≡ weigh 1 s) × (i ≤ length s) × (place ≡ i + 1) × (sum ≤ 130050 * i)
 
 abbrev μ-loop : tie.MeasureT-loop
 μ-loop s sum₀ place₀ i₀ sum place i = length s - i
@@ -81,4 +83,18 @@ returns c =
     ended (c .before .before .args .s .now) (l .sum) (l .place) (l .i) _ (c .loop-test .left) (l .inv .0)
 
 pub weighed-spec : {M : Type 1} → statement M
-weighed-spec = tie.close (tie.spec Inv-loop μ-loop loop-holds shared-slice-read-sum cast-sum mul-sum add-sum add-place add-i loop-less loop-again returns)
+weighed-spec =
+    tie.close
+    (tie.spec
+    Inv-loop
+    μ-loop
+    loop-holds
+    shared-slice-read-sum
+    cast-sum
+    mul-sum
+    add-sum
+    add-place
+    add-i
+    loop-less
+    loop-again
+    returns)

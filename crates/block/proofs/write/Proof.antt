@@ -22,6 +22,9 @@ returns-2 c = no-room _ _ (sym (c .before .before .well-formed .ensures) ∙ not
 put-requires : tie.Need-put-requires
 put-requires c κs = search needs
 
+cast-t9 : tie.Need-cast-t9
+cast-t9 c = search needs
+
 same-length : tie.Need-same-length
 same-length c = search needs
 
@@ -34,4 +37,4 @@ returns-3 c =
 
 pub write-spec : {M : Type 1} → statement M
 write-spec =
-    tie.close (tie.spec well-formed-requires returns returns-2 put-requires same-length returns-3)
+    tie.close (tie.spec well-formed-requires returns returns-2 put-requires cast-t9 same-length returns-3)

@@ -39,7 +39,8 @@ loop-again : tie.Need-loop-again Inv-loop μ-loop
 loop-again c =
     let a = c .before .before .before .before .args in
     let l = c .before .before .before .loop in
-    (l .inv .0 ∙ absent-step (a .x) (l .left) (a .s .now) (l .at) (omega arith) ∙ rw (ne-eqb _ _ (c .if1 .left)), omega arith, omega arith)
+    let left = ne-eqb _ _ (c .if1 .left) in
+    (l .inv .0 ∙ absent-step (a .x) (l .left) (a .s .now) (l .at) (omega arith) ∙ rw left, omega arith, omega arith)
 
 returns-2 : tie.Need-returns-2 Inv-loop μ-loop
 unfolding absent
@@ -50,4 +51,5 @@ returns-2 c =
     sym (l .inv .0 ∙ rw z)
 
 pub is-absent-spec : {M : Type 1} → statement M
-is-absent-spec = tie.close (tie.spec Inv-loop μ-loop loop-holds shared-slice-read-if1 returns add-at sub-left loop-less loop-again returns-2)
+is-absent-spec =
+    tie.close (tie.spec Inv-loop μ-loop loop-holds shared-slice-read-if1 returns add-at sub-left loop-less loop-again returns-2)

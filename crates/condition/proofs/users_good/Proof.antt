@@ -59,8 +59,10 @@ returns-2 : tie.Need-returns-2 Inv-loop μ-loop
 returns-2 c =
     let a = c .before .before .before .before .before .before .before .before .before .args in
     let l = c .before .before .before .before .before .before .before .loop in
-    let gone : absent (getD (a .s .now) (l .at) 0) (l .left - 1) (drop (l .at + 6) (a .s .now)) ≡ false = ap (absent _ _) (sym (tail-part (a .s .now) (l .at + 6))) ∙ sym (c .before .is-absent .ensures) ∙ not-true _ (c .if2 .taken) in
-    sym (l .inv .0 ∙ users-step (l .left) (a .s .now) (l .at) (omega arith) ∙ rw (gone, lt-ltb _ _ (c .before .before .before .if1 .left)))
+    let gone : absent (getD (a .s .now) (l .at) 0) (l .left - 1) (drop (l .at + 6) (a .s .now)) ≡ false =
+    ap (absent _ _) (sym (tail-part (a .s .now) (l .at + 6))) ∙ sym (c .before .is-absent .ensures) ∙ not-true _ (c .if2 .taken) in
+    let low = lt-ltb _ _ (c .before .before .before .if1 .left) in
+    sym (l .inv .0 ∙ users-step (l .left) (a .s .now) (l .at) (omega arith) ∙ rw (gone, low))
 
 loop-less : tie.Need-loop-less Inv-loop μ-loop
 loop-less c = omega arith
@@ -69,8 +71,10 @@ loop-again : tie.Need-loop-again Inv-loop μ-loop
 loop-again c =
     let a = c .before .before .before .before .before .before .before .before .before .args in
     let l = c .before .before .before .before .before .before .before .loop in
-    let there : absent (getD (a .s .now) (l .at) 0) (l .left - 1) (drop (l .at + 6) (a .s .now)) ≡ true = ap (absent _ _) (sym (tail-part (a .s .now) (l .at + 6))) ∙ sym (c .before .is-absent .ensures) ∙ not-false _ (c .if2 .left) in
-    (l .inv .0 ∙ users-step (l .left) (a .s .now) (l .at) (omega arith) ∙ rw (there, lt-ltb _ _ (c .before .before .before .if1 .left)), omega arith, omega arith)
+    let there : absent (getD (a .s .now) (l .at) 0) (l .left - 1) (drop (l .at + 6) (a .s .now)) ≡ true =
+    ap (absent _ _) (sym (tail-part (a .s .now) (l .at + 6))) ∙ sym (c .before .is-absent .ensures) ∙ not-false _ (c .if2 .left) in
+    let low = lt-ltb _ _ (c .before .before .before .if1 .left) in
+    (l .inv .0 ∙ users-step (l .left) (a .s .now) (l .at) (omega arith) ∙ rw (there, low), omega arith, omega arith)
 
 sub-up-to : tie.Need-sub-up-to Inv-loop μ-loop
 sub-up-to c = omega arith

@@ -24,7 +24,8 @@ enum-told c = search needs
 returns-3 : tie.Need-returns-3
 unfolding dotAnswer
 returns-3 c =
-    rw (le-leb 1 _ (c .before .before .before .before .if1 .left), le-leb _ 35 (c .before .before .before .if2 .left), ← c .before .before .lookup .ensures, c .enum-told .given .1)
+    let t = c .before .before .before in
+    rw (le-leb 1 _ (t .before .if1 .left), le-leb _ 35 (t .if2 .left), ← c .before .before .lookup .ensures, c .enum-told .given .1)
 
 drawn-requires : tie.Need-drawn-requires
 drawn-requires c κs = search needs
@@ -38,7 +39,10 @@ cast-t9 c = search needs
 returns-4 : tie.Need-returns-4
 unfolding dotAnswer
 returns-4 c =
-    rw (le-leb 1 _ (c .before .before .before .before .before .before .before .if1 .left), le-leb _ 35 (c .before .before .before .before .before .before .if2 .left), ← c .before .before .before .before .before .lookup .ensures, c .before .before .before .place .given .1, c .dot .ensures, c .before .drawn .ensures)
+    let p = c .before .before .before in
+    let t = p .before .before .before in
+    rw (le-leb 1 _ (t .before .if1 .left), le-leb _ 35 (t .if2 .left), ← p .before .before .lookup .ensures, p .place .given .1)
+    (rw (c .dot .ensures, c .before .drawn .ensures))
 
 pub dot-spec : {M : Type 1} → statement M
 dot-spec =

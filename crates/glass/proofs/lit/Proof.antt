@@ -24,7 +24,9 @@ lit-requires c κs = search needs
 
 returns-2 : tie.Need-returns-2
 unfolding litAnswer
-returns-2 c = rw (← c .before .before .before .before .before .lookup .ensures, c .before .before .before .place .given .1, c .lit .ensures, c .before .drawn .ensures)
+returns-2 c =
+    let p = c .before .before .before in
+    rw (← p .before .before .lookup .ensures, p .place .given .1, c .lit .ensures, c .before .drawn .ensures)
 
 pub lit-spec : {M : Type 1} → statement M
 lit-spec =

@@ -20,7 +20,9 @@ found-requires c κs = search needs
 
 returns-2 : tie.Need-returns-2
 unfolding lookupOf
-returns-2 c = rw (c .found .ensures, sym (c .before .before .before .before .before .well-formed .ensures) ∙ not-false _ (c .before .before .before .before .if1 .left))
+returns-2 c =
+    let t = c .before .before .before .before in
+    rw (c .found .ensures, sym (t .before .well-formed .ensures) ∙ not-false _ (t .if1 .left))
 
 pub lookup-spec : {M : Type 1} → statement M
 lookup-spec =

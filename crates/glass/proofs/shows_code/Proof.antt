@@ -35,7 +35,9 @@ euro-or-requires c κs = search needs
 
 returns-3 : tie.Need-returns-3
 unfolding showsCode
-returns-3 c = rw (c .euro-or .ensures, user (c .before .before .before .before) (c .before .before .before .if1 .left), le-ltb _ _ (c .before .before .if2 .left), c .before .if3 .taken)
+returns-3 c =
+    let t = c .before .before in
+    rw (c .euro-or .ensures, user (t .before .before) (t .before .if1 .left), le-ltb _ _ (t .if2 .left), c .before .if3 .taken)
 
 returns-4 : tie.Need-returns-4
 unfolding showsCode

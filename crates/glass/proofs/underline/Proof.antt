@@ -27,7 +27,9 @@ cast-t7 c = search needs
 
 returns-2 : tie.Need-returns-2
 unfolding underlineAnswer
-returns-2 c = rw (← c .before .before .before .before .before .lookup .ensures, c .before .before .before .place .given .1, c .underline .ensures, c .before .drawn .ensures)
+returns-2 c =
+    let p = c .before .before .before in
+    rw (← p .before .before .lookup .ensures, p .place .given .1, c .underline .ensures, c .before .drawn .ensures)
 
 pub underline-spec : {M : Type 1} → statement M
 underline-spec =

@@ -33,8 +33,9 @@ array-read-t21 c = search needs
 returns : tie.Need-returns
 unfolding headOf
 returns c =
-    let h = c .before .before .before .before .before .before .half-of .ensures in
-    rw (c .bit4 .ensures, c .before .bit3 .ensures, c .before .before .bit2 .ensures, c .before .before .before .bit .ensures, h .0, h .1, h .2)
+    let b = c .before .before in
+    let h = b .before .before .before .before .half-of .ensures in
+    rw (c .bit4 .ensures, c .before .bit3 .ensures, b .bit2 .ensures, b .before .bit .ensures, h .0, h .1, h .2)
 
 pub head-spec : {M : Type 1} → statement M
 head-spec =

@@ -59,18 +59,23 @@ same-length c = search needs
 
 returns : tie.Need-returns
 returns c =
-    let a = c .before .before .before .before .before .before .before .before .before .before .before .before .before .before .before .before .before .before .before .before .before .args in
+    let c₄ = c .before .before in
+    let c₃ = c₄ .before .before .before .before .before in
+    let c₂ = c₃ .before .before .before .before .before in
+    let c₁ = c₂ .before .before .before .before .before in
+    let a = c₁ .before .before .before .before .args in
     let s = a .s .now in
-    let x = c .before .before .before .before .before .before .before .before .before .before .before .before .before .before .before .before .before .copy .last .0 in
-    let y = c .before .before .before .before .before .before .before .before .before .before .before .before .copy2 .last .0 in
-    let z = c .before .before .before .before .before .before .before .copy3 .last .0 in
-    let v = c .before .before .copy4 .last .0 in
+    let x = c₁ .copy .last .0 in
+    let y = c₂ .copy2 .last .0 in
+    let z = c₃ .copy3 .last .0 in
+    let v = c₄ .copy4 .last .0 in
     let s₁ = x ++ drop 24 s in
     let s₂ = take 24 s₁ ++ (y ++ drop 40 (drop 24 s₁)) in
     let s₃ = take 64 s₂ ++ (z ++ drop 40 (drop 64 s₂)) in
     let s₄ = take 104 s₃ ++ (v ++ drop 96 (drop 104 s₃)) in
-    four-parts s (a .first .now) (a .codes .now) (a .fonts .now) (a .chars .now) x y z v (search needs) (search needs) (search needs) (search needs) (search needs)
-    s₁ s₂ s₃ s₄ (c .before .before .before .before .before .before .before .before .before .before .before .before .before .before .before .before .before .copy .ensures) refl (c .before .before .before .before .before .before .before .before .before .before .before .before .copy2 .ensures) refl (c .before .before .before .before .before .before .before .copy3 .ensures) refl (c .before .before .copy4 .ensures) refl
+    four-parts s (a .first .now) (a .codes .now) (a .fonts .now) (a .chars .now) x y z v
+    (search needs) (search needs) (search needs) (search needs) (search needs)
+    s₁ s₂ s₃ s₄ (c₁ .copy .ensures) refl (c₂ .copy2 .ensures) refl (c₃ .copy3 .ensures) refl (c₄ .copy4 .ensures) refl
 
 pub lay-spec : {M : Type 1} → statement M
 lay-spec =

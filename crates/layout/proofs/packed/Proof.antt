@@ -14,7 +14,9 @@ lay-requires c κs = search needs
 
 returns : tie.Need-returns
 unfolding packedOf
-returns c = rw (c .before .lay .ensures, c .before .before .before .before .before .before .before .before .before .before .before .head .ensures)
+returns c =
+    let h = c .before .before .before .before .before .before .before .before .before .before .before in
+    rw (c .before .lay .ensures, h .head .ensures)
 
 pub packed-spec : {M : Type 1} → statement M
 packed-spec = tie.close (tie.spec head-requires slice-aggregate-lay lay-requires returns)

@@ -110,7 +110,14 @@ shared-slice-read-t59 c = search needs
 
 returns : tie.Need-returns
 returns c =
-    unpacking (c .before .before .before .before .before .before .before .before .before .before .before .before .before .before .before .before .before .before .before .before .before .before .before .before .before .before .before .before .before .before .before .before .args .s .now) _ _ _ _ _ (search needs) (c .before .before .before .before .before .before .before .before .before .before .before .before .before .before .before .before .before .before .before .before .before .before .before .before .before .before .before .before .copy .ensures) (c .before .before .before .before .before .before .before .before .before .before .before .before .before .before .before .before .before .before .before .before .before .before .before .before .copy2 .ensures) (c .before .before .before .before .before .before .before .before .before .before .before .before .before .before .before .before .before .before .before .before .copy3 .ensures) (c .before .before .before .before .before .before .before .before .before .before .before .before .before .before .before .before .copy4 .ensures) (c .before .before .before .before .before .before .before .before .before .before .before .pending-in .ensures)
+    let p = c .before .before .before .before .before .before .before .before .before .before .before in
+    let c₄ = p .before .before .before .before .before in
+    let c₃ = c₄ .before .before .before .before in
+    let c₂ = c₃ .before .before .before .before in
+    let c₁ = c₂ .before .before .before .before in
+    let a = c₁ .before .before .before .before .args in
+    unpacking (a .s .now) (c₁ .copy .last .0) (c₂ .copy2 .last .0) (c₃ .copy3 .last .0) (c₄ .copy4 .last .0) (p .pending-in .result)
+    (search needs) (c₁ .copy .ensures) (c₂ .copy2 .ensures) (c₃ .copy3 .ensures) (c₄ .copy4 .ensures) (p .pending-in .ensures)
 
 pub unpack-spec : {M : Type 1} → statement M
 unpack-spec =

@@ -9,7 +9,8 @@ use Rattle.row.proofs.copy.Statement.{statement}
 use Rattle.row.proofs.copy.Tie as tie
 
 abbrev Inv-loop : tie.InvT-loop
-Inv-loop to₀ from n i₀ to i = (i ≤ n) × (to ≡ take i from ++ drop i to₀) × (length to ≡ length to₀) × (n ≡ min (length to₀) (length from))
+Inv-loop to₀ from n i₀ to i =
+    (i ≤ n) × (to ≡ take i from ++ drop i to₀) × (length to ≡ length to₀) × (n ≡ min (length to₀) (length from))
 
 abbrev μ-loop : tie.MeasureT-loop
 μ-loop to₀ from n i₀ to i = n - i
@@ -35,8 +36,12 @@ loop-less c = omega arith
 loop-again : tie.Need-loop-again Inv-loop μ-loop
 loop-again c =
     let a = c .before .before .before .before .before .before .args in
-    let l = c .before .before .loop in
-    (omega arith, copy-turn (a .to .now) (a .from .now) (l .to) (l .i) (l .inv .1) (omega arith) (omega arith), search needs, l .inv .3)
+    let l = c .before .before .loop in (
+      omega arith,
+      copy-turn (a .to .now) (a .from .now) (l .to) (l .i) (l .inv .1) (omega arith) (omega arith),
+      search needs,
+      l .inv .3,
+    )
 
 same-length : tie.Need-same-length Inv-loop μ-loop
 same-length c = search needs

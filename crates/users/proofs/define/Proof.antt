@@ -19,12 +19,14 @@ enum-known-f c = search needs
 
 mul-put : tie.Need-mul-put
 mul-put c =
-    let h = found-below _ _ _ _ (search needs) (sym (c .before .before .before .before .find .ensures) ∙ c .before .before .f .given .1) in
+    let e = sym (c .before .before .before .before .find .ensures) ∙ c .before .before .f .given .1 in
+    let h = found-below _ _ _ _ (search needs) e in
     search needs
 
 put-requires : tie.Need-put-requires
 put-requires c κs =
-    let h = found-below _ _ _ _ (search needs) (sym (c .before .before .before .before .find .ensures) ∙ c .before .before .f .given .1) in
+    let e = sym (c .before .before .before .before .find .ensures) ∙ c .before .before .f .given .1 in
+    let h = found-below _ _ _ _ (search needs) e in
     search needs
 
 same-length : tie.Need-same-length
@@ -33,7 +35,9 @@ same-length c = search needs
 returns-2 : tie.Need-returns-2
 unfolding definedAt
 returns-2 c =
-    rw (c .before .before .put .ensures) (defines _ _ _ _ _ _ (search needs) (sym (c .before .before .before .before .before .f .given .1) ∙ c .before .before .before .before .before .before .before .find .ensures))
+    let f = c .before .before .before .before .before in
+    rw (c .before .before .put .ensures)
+    (defines _ _ _ _ _ _ (search needs) (sym (f .f .given .1) ∙ f .before .before .find .ensures))
 
 enum-told : tie.Need-enum-told
 enum-told c = search needs
@@ -53,7 +57,9 @@ same-length-2 c = search needs
 returns-3 : tie.Need-returns-3
 unfolding definedAt
 returns-3 c =
-    rw (c .before .before .put2 .ensures, ← defines _ _ _ _ _ Missing (search needs) (sym (c .before .before .before .before .before .enum-told .given .1) ∙ c .before .before .before .before .before .before .before .find .ensures), lt-ltb _ _ (c .before .before .before .before .if2 .taken))
+    let t = c .before .before .before .before in
+    let none = sym (t .before .enum-told .given .1) ∙ t .before .before .before .find .ensures in
+    rw (c .before .before .put2 .ensures, ← defines _ _ _ _ _ Missing (search needs) none, lt-ltb _ _ (t .if2 .taken))
 
 advance-requires : tie.Need-advance-requires
 advance-requires c κs = search needs
@@ -67,7 +73,11 @@ same-length-3 c = search needs
 returns-4 : tie.Need-returns-4
 unfolding definedAt
 returns-4 c =
-    rw (c .before .before .put3 .ensures, c .before .before .before .before .before .before .advance .ensures, ← defines _ _ _ _ _ Missing (search needs) (sym (c .before .before .before .before .before .before .before .before .before .enum-told .given .1) ∙ c .before .before .before .before .before .before .before .before .before .before .before .find .ensures), le-ltb _ _ (c .before .before .before .before .before .before .before .before .if2 .left))
+    let a = c .before .before .before .before .before .before in
+    let t = a .before .before in
+    let none = sym (t .before .enum-told .given .1) ∙ t .before .before .before .find .ensures in
+    rw (c .before .before .put3 .ensures, a .advance .ensures, ← defines _ _ _ _ _ Missing (search needs) none)
+    (rw (le-ltb _ _ (t .if2 .left)))
 
 pub define-spec : {M : Type 1} → statement M
 define-spec =

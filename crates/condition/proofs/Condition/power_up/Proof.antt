@@ -4,6 +4,9 @@ use borrow.Author.Needs.{needs}
 use Rattle.condition.proofs.Condition.power_up.Statement.{statement}
 use Rattle.condition.proofs.Condition.power_up.Tie as tie
 
+cast-if1 : tie.Need-cast-if1
+cast-if1 c = search needs
+
 cast-powered : tie.Need-cast-powered
 cast-powered c = search needs
 
@@ -23,4 +26,4 @@ returns-2 c = rw (c .powered2 .ensures, lt-leb _ _ (c .before .if1 .left))
 
 pub power-up-spec : {M : Type 1} → statement M
 power-up-spec =
-    tie.close (tie.spec cast-powered powered-requires returns powered-requires-2 returns-2)
+    tie.close (tie.spec cast-if1 cast-powered powered-requires returns powered-requires-2 returns-2)
