@@ -16,7 +16,7 @@ part-copy-end : tie.Need-part-copy-end
 part-copy-end c = search needs
 
 copy-requires : tie.Need-copy-requires
-copy-requires c κs = search needs
+copy-requires c κs = tt
 
 slice-aggregate-copy-2 : tie.Need-slice-aggregate-copy-2
 slice-aggregate-copy-2 c = search needs
@@ -31,7 +31,7 @@ part-copy-end-2 : tie.Need-part-copy-end-2
 part-copy-end-2 c = search needs
 
 copy-requires-2 : tie.Need-copy-requires-2
-copy-requires-2 c κs = search needs
+copy-requires-2 c κs = tt
 
 slice-aggregate-copy-3 : tie.Need-slice-aggregate-copy-3
 slice-aggregate-copy-3 c = search needs
@@ -46,7 +46,7 @@ part-copy-end-3 : tie.Need-part-copy-end-3
 part-copy-end-3 c = search needs
 
 copy-requires-3 : tie.Need-copy-requires-3
-copy-requires-3 c κs = search needs
+copy-requires-3 c κs = tt
 
 slice-aggregate-copy-4 : tie.Need-slice-aggregate-copy-4
 slice-aggregate-copy-4 c = search needs
@@ -61,7 +61,7 @@ part-copy-end-4 : tie.Need-part-copy-end-4
 part-copy-end-4 c = search needs
 
 copy-requires-4 : tie.Need-copy-requires-4
-copy-requires-4 c κs = search needs
+copy-requires-4 c κs = tt
 
 shared-slice-read-pending-in : tie.Need-shared-slice-read-pending-in
 shared-slice-read-pending-in c = search needs
@@ -73,7 +73,7 @@ shared-slice-read-pending-in-3 : tie.Need-shared-slice-read-pending-in-3
 shared-slice-read-pending-in-3 c = search needs
 
 pending-in-requires : tie.Need-pending-in-requires
-pending-in-requires c κs = search needs
+pending-in-requires c κs = tt
 
 shared-slice-read-t31 : tie.Need-shared-slice-read-t31
 shared-slice-read-t31 c = search needs
@@ -115,9 +115,9 @@ returns c =
     let c₃ = c₄ .before .before .before .before in
     let c₂ = c₃ .before .before .before .before in
     let c₁ = c₂ .before .before .before .before in
-    let a = c₁ .before .before .before .before .args in
-    unpacking (a .s .now) (c₁ .copy .last .0) (c₂ .copy2 .last .0) (c₃ .copy3 .last .0) (c₄ .copy4 .last .0) (p .pending-in .result)
-    (search needs) (c₁ .copy .ensures) (c₂ .copy2 .ensures) (c₃ .copy3 .ensures) (c₄ .copy4 .ensures) (p .pending-in .ensures)
+    let o = c₁ .before .before .before .before in
+    unpacking (o .args .s .now) (c₁ .copy .last .0) (c₂ .copy2 .last .0) (c₃ .copy3 .last .0) (c₄ .copy4 .last .0) (p .pending-in .result)
+    (o .pre) (c₁ .copy .ensures) (c₂ .copy2 .ensures) (c₃ .copy3 .ensures) (c₄ .copy4 .ensures) (p .pending-in .ensures)
 
 pub unpack-spec : {M : Type 1} → statement M
 unpack-spec =
