@@ -1,4 +1,6 @@
+use Prim.Native.Nat.{_<_, _≤_}
 use mathlib.Core.Path.{sym, _∙_}
+use native.Mathlib.Omega.{arith}
 use Rattle.users.specs.Users.{defineIn, definedAt}
 use Rattle.users.specs.declared.Found.the-variants.{Missing}
 use Rattle.users.proofs.Laws.{found-below, defines}
@@ -58,8 +60,10 @@ returns-3 : tie.Need-returns-3
 unfolding definedAt
 returns-3 c =
     let t = c .before .before .before .before in
-    let none = sym (t .before .enum-told .given .1) ∙ t .before .before .before .find .ensures in
-    rw (c .before .before .put2 .ensures, ← defines _ _ _ _ _ Missing (search needs) none, lt-ltb _ _ (t .if2 .taken))
+    let f = t .before .before .before in
+    let none = sym (t .before .enum-told .given .1) ∙ f .find .ensures in
+    let room : f .before .before .before .before .args .count < 16 = omega (arith, t .if2 .taken) in
+    rw (c .before .before .put2 .ensures, ← defines _ _ _ _ _ Missing (search needs) none, lt-ltb _ _ room)
 
 advance-requires : tie.Need-advance-requires
 advance-requires c κs = search needs
@@ -75,9 +79,10 @@ unfolding definedAt
 returns-4 c =
     let a = c .before .before .before .before .before .before in
     let t = a .before .before in
-    let none = sym (t .before .enum-told .given .1) ∙ t .before .before .before .find .ensures in
-    rw (c .before .before .put3 .ensures, a .advance .ensures, ← defines _ _ _ _ _ Missing (search needs) none)
-    (rw (le-ltb _ _ (t .if2 .left)))
+    let f = t .before .before .before in
+    let none = sym (t .before .enum-told .given .1) ∙ f .find .ensures in
+    let full : 16 ≤ f .before .before .before .before .args .count = omega (arith, t .if2 .left) in
+    rw (c .before .before .put3 .ensures, a .advance .ensures, ← defines _ _ _ _ _ Missing (search needs) none, le-ltb _ _ full)
 
 pub define-spec : {M : Type 1} → statement M
 define-spec =
