@@ -17,12 +17,13 @@ use Rattle.condition.specs.declared.Pending.{Pending}
 use Rattle.condition.specs.declared.Pending.the-variants.{Nothing, Escape, Position, Luminance, Speed, UserCode, UserData}
 use Rattle.condition.specs.Condition.{idle, wellFormed}
 use Rattle.condition.specs.Set.{withCursor, withCell, withScrolling, withPending, goTo}
-use Rattle.condition.specs.Bytes.{leftOf, rightOf, downOf, returnOf, writeOf, isChar, controlOf, escapeOf, positionOf, stepAt, stepOf, runOf}
+use Rattle.condition.specs.Bytes.{leftOf, rightOf, downOf, returnOf, writeOf, controlOf, escapeOf, positionOf}
+use Rattle.condition.specs.Bytes.{isChar, stepAt, stepOf, runOf}
 use Rattle.condition.specs.Steps.{isMove, stepByte, lowAfter, inOrder}
 use Rattle.condition.proofs.Good.{good}
 use Rattle.condition.proofs.Kept.{scroll-off}
 use Rattle.moves.specs.Moves.{any, left, next, down, moves, move}
-use Rattle.moves.specs.Ways.{Half, none, escape, place, path, leadsTo, atMost}
+use Rattle.moves.specs.Ways.{Jump, none, escape, place, path, leadsTo, atMost}
 use Rattle.moves.proofs.Moving.{each-move, move-below}
 use Rattle.moves.proofs.Strings.{shortest}
 
@@ -81,7 +82,8 @@ unfolding rightOf
 right-is c m h =
     rw (ne-eqb (c .mode) 3 (λ e. omega arith), eq-eqb (c .mode) 1 m)
     (rw (place-by (withCursor c) (eqb (c .cursor) 19) 20 0)
-    (place-by (withCursor c) (ltb (c .cursor % 20) 19) (c .cursor + 1) (cond (eqb (c .cursor) 19) 20 0) ∙ ap (withCursor c) (next-is (c .cursor) h)))
+    (place-by (withCursor c) (ltb (c .cursor % 20) 19) (c .cursor + 1) (cond (eqb (c .cursor) 19) 20 0)
+    ∙ ap (withCursor c) (next-is (c .cursor) h)))
 
 left-is : (c : Condition) → c .scrolling ≡ false → leftOf c ≡ withCursor c (left (c .cursor))
 unfolding leftOf left
@@ -125,7 +127,8 @@ module _ (c : Condition) (r : Ready c) where
       ∙ rw (e, ne-eqb (c .mode) 3 (λ z. omega (arith, r .one))) (right-is (withCell c (c .cursor) b) (r .one) (r .inside))
 
 -- 1Bh 48h p, the cursor at p
-pub placed : (c : Condition) (p : ℕ) → c .scrolling ≡ false → p < 40 → stepOf (withPending c Position) p ≡ withCursor (withPending c Nothing) p
+pub placed : (c : Condition) (p : ℕ) → c .scrolling ≡ false → p < 40
+    → stepOf (withPending c Position) p ≡ withCursor (withPending c Nothing) p
 unfolding stepAt positionOf
 placed c p e h = rw (le-leb p 0x27 (omega arith)) (go-is (withPending c Nothing) p e)
 
@@ -135,41 +138,45 @@ is-move b = simp (or-assoc, or-false)
 
 -- Whole strings of moves -----------------------------------------------------------------------------------------------------
 
-abbrev pub half : Half → Pending
-half none = Nothing
-half escape = Escape
-half place = Position
+abbrev pendingAt : Jump → Pending
+pendingAt none = Nothing
+pendingAt escape = Escape
+pendingAt place = Position
 
 -- c after a part of 1Bh 48h p, with the cursor at a
-abbrev partly : Condition → Half → ℕ → Condition
-partly c k a = withPending (withCursor c a) (half k)
+abbrev partly : Condition → Jump → ℕ → Condition
+partly c k a = withPending (withCursor c a) (pendingAt k)
 
 partly-ready : (c : Condition) (a : ℕ) → Ready c → a < 40 → Ready (partly c none a)
 partly-ready c a r h = record { one = r .one; still = r .still; inside = h; whole = refl }
 
 -- a string of moves that leads from a to b brings the cursor there, and changes nothing else
-leads-there : (c : Condition) → Ready c → ((m : ℕ) → any (eqb m) moves ≡ true → isUser (c .users) m ≡ false) → isUser (c .users) 0x1B ≡ false
-    → (bs : List ℕ) (k : Half) (a b : ℕ) → a < 40 → leadsTo k a b bs ≡ true → runOf (partly c k a) bs ≡ partly c none b
-unfolding runOf leadsTo escapeOf stepAt
-leads-there c r free free27 [] none a b h l = ap (partly c none) (eqb-true a b l)
-leads-there c r free free27 [] escape a b h l = clash l refl
-leads-there c r free free27 [] place a b h l = clash l refl
-leads-there c r free free27 (x ∷ xs) none a b h l =
-    ⊎-elim
-    (λ (e : eqb x 0x1B ≡ true). ap (λ (d : Condition). runOf d xs) (ap (stepOf (partly c none a)) (eqb-true x 0x1B e) ∙ escapes (partly c none a) (partly-ready c a r h) free27)
-    ∙ leads-there c r free free27 xs escape a b h (rw e at l))
-    (λ (e : eqb x 0x1B ≡ false). let o = rw e at l in
-    let i : any (eqb x) moves ≡ true = both (any (eqb x) moves) _ o .0 in
-    ap (λ (d : Condition). runOf d xs) (moves-to (partly c none a) (partly-ready c a r h) x i (free x i))
-    ∙ leads-there c r free free27 xs none (move x a) b (move-below x a h) (both (any (eqb x) moves) _ o .1))
-    (bool (eqb x 0x1B))
-leads-there c r free free27 (x ∷ xs) escape a b h l =
-    ap (λ (d : Condition). runOf d xs) (ap (stepOf (partly c escape a)) (eqb-true x 0x48 (both (eqb x 0x48) _ l .0)))
-    ∙ leads-there c r free free27 xs place a b h (both (eqb x 0x48) _ l .1)
-leads-there c r free free27 (x ∷ xs) place a b h l =
-    let z : x < 40 = (let k = leb-true x 0x27 (both (leb x 0x27) _ l .0) in omega arith) in
-    ap (λ (d : Condition). runOf d xs) (placed (withCursor c a) x (r .still) z)
-    ∙ leads-there c r free free27 xs none x b z (both (leb x 0x27) _ l .1)
+module _ (c : Condition) (r : Ready c) (free : (m : ℕ) → any (eqb m) moves ≡ true → isUser (c .users) m ≡ false)
+    (free27 : isUser (c .users) 0x1B ≡ false) where
+  leads-there : (bs : List ℕ) (k : Jump) (a b : ℕ) → a < 40 → leadsTo k a b bs ≡ true → runOf (partly c k a) bs ≡ partly c none b
+  unfolding runOf leadsTo escapeOf stepAt
+  leads-there [] none a b h l = ap (partly c none) (eqb-true a b l)
+  leads-there [] escape a b h l = clash l refl
+  leads-there [] place a b h l = clash l refl
+  leads-there (x ∷ xs) none a b h l =
+      let d = partly c none a in
+      let g = partly-ready c a r h in
+      ⊎-elim
+      (λ (e : eqb x 0x1B ≡ true).
+      ap (λ (d : Condition). runOf d xs) (ap (stepOf d) (eqb-true x 0x1B e) ∙ escapes d g free27)
+      ∙ leads-there xs escape a b h (rw e at l))
+      (λ (e : eqb x 0x1B ≡ false). let o = rw e at l in
+      let i : any (eqb x) moves ≡ true = both (any (eqb x) moves) _ o .0 in
+      ap (λ (d : Condition). runOf d xs) (moves-to d g x i (free x i))
+      ∙ leads-there xs none (move x a) b (move-below x a h) (both (any (eqb x) moves) _ o .1))
+      (bool (eqb x 0x1B))
+  leads-there (x ∷ xs) escape a b h l =
+      ap (λ (d : Condition). runOf d xs) (ap (stepOf (partly c escape a)) (eqb-true x 0x48 (both (eqb x 0x48) _ l .0)))
+      ∙ leads-there xs place a b h (both (eqb x 0x48) _ l .1)
+  leads-there (x ∷ xs) place a b h l =
+      let z : x < 40 = (let k = leb-true x 0x27 (both (leb x 0x27) _ l .0) in omega arith) in
+      ap (λ (d : Condition). runOf d xs) (placed (withCursor c a) x (r .still) z)
+      ∙ leads-there xs none x b z (both (leb x 0x27) _ l .1)
 
 -- In the words of the condition's own definitions ----------------------------------------------------------------------------
 
@@ -189,14 +196,16 @@ string-law c bs b w one p free free27 l =
     ∙ (λ i. withPending (withCursor c b) (sym (r .whole) i))
 
 -- what is shown of a condition, shown of one that is the same
-go : (k : Half) (a : ℕ) (xs : List ℕ) {d e : Condition} → d ≡ e → (inOrder e 40 xs ≡ true → leadsTo k a (runOf e xs .cursor) xs ≡ true)
+go : (k : Jump) (a : ℕ) (xs : List ℕ) {d e : Condition} → d ≡ e
+    → (inOrder e 40 xs ≡ true → leadsTo k a (runOf e xs .cursor) xs ≡ true)
     → inOrder d 40 xs ≡ true → leadsTo k a (runOf d xs .cursor) xs ≡ true
 go k a xs n f o =
-    subst (λ (e : Condition). leadsTo k a (runOf e xs .cursor) xs ≡ true) (sym n) (f (subst (λ (e : Condition). inOrder e 40 xs ≡ true) n o))
+    subst (λ (e : Condition). leadsTo k a (runOf e xs .cursor) xs ≡ true) (sym n)
+    (f (subst (λ (e : Condition). inOrder e 40 xs ≡ true) n o))
 
--- The other way round: a string of the planner's steps that writes nothing is a string of moves. No cell is at 40, so where no cell below 40
--- may be written a string in order has no write.
-leads-back : (c : Condition) → Ready c → (bs : List ℕ) (k : Half) (a : ℕ) → a < 40 → inOrder (partly c k a) 40 bs ≡ true
+-- The other way round: a string of the planner's steps that writes nothing is a string of moves. No cell is at 40, so where no cell
+-- below 40 may be written a string in order has no write.
+leads-back : (c : Condition) → Ready c → (bs : List ℕ) (k : Jump) (a : ℕ) → a < 40 → inOrder (partly c k a) 40 bs ≡ true
     → leadsTo k a (runOf (partly c k a) bs .cursor) bs ≡ true
 unfolding runOf leadsTo inOrder stepByte lowAfter escapeOf stepAt isChar
 leads-back c r [] none a h o = eq-eqb a a refl
@@ -213,7 +222,8 @@ leads-back c r (x ∷ xs) none a h o =
     let on = subst (λ (n : ℕ). inOrder (stepOf d x) n xs ≡ true) low rest in
     let u = no-user c x e in
     ⊎-elim
-    (λ (z : eqb x 0x1B ≡ true). let n = ap (stepOf d) (eqb-true x 0x1B z) ∙ escapes d (partly-ready c a r h) (ap (isUser (c .users)) (sym (eqb-true x 0x1B z)) ∙ u) in
+    (λ (z : eqb x 0x1B ≡ true). let q : x ≡ 0x1B = eqb-true x 0x1B z in
+    let n = ap (stepOf d) q ∙ escapes d (partly-ready c a r h) (ap (isUser (c .users)) (sym q) ∙ u) in
     rw z (go escape a xs n (leads-back c r xs escape a h) on))
     (λ (z : eqb x 0x1B ≡ false). let i : any (eqb x) moves ≡ true = sym (is-move x) ∙ (rw (z, or-false) at m) in
     let n = moves-to d (partly-ready c a r h) x i u in
@@ -230,11 +240,12 @@ leads-back c r (x ∷ xs) place a h o =
     let n = placed (withCursor c a) x (r .still) z in
     rw e (go none x xs n (leads-back c r xs none x z) (both (leb x 0x27) _ o .1))
 
-pub writeless : (c : Condition) (bs : List ℕ) → Ready c → inOrder c 40 bs ≡ true → leadsTo none (c .cursor) (runOf c bs .cursor) bs ≡ true
+pub writeless : (c : Condition) (bs : List ℕ) → Ready c → inOrder c 40 bs ≡ true
+    → leadsTo none (c .cursor) (runOf c bs .cursor) bs ≡ true
 writeless c bs r o = go none (c .cursor) bs (λ i. withPending c (r .whole i)) (leads-back c r bs none (c .cursor) (r .inside)) o
 
--- so, of all strings of the planner's steps that write nothing and bring the cursor to b, none is shorter than its way, and none of that
--- length is smaller
+-- so, of all strings of the planner's steps that write nothing and bring the cursor to b, none is shorter than its way, and none of
+-- that length is smaller
 pub way-law : (c : Condition) (bs : List ℕ) (b : ℕ) → Ready c → b < 40 → inOrder c 40 bs ≡ true → runOf c bs .cursor ≡ b
     → (length (path (c .cursor) b) ≤ length bs) × (length bs ≡ length (path (c .cursor) b) → atMost (path (c .cursor) b) bs ≡ true)
 way-law c bs b r h o e =

@@ -2,6 +2,6 @@ pub mod Lists
 pub mod Moving
 pub mod Rule
 pub mod Strings
-pub mod Putting
+pub mod Laying
 pub mod Interpreter
 pub mod Entries

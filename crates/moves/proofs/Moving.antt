@@ -88,7 +88,8 @@ two-first a b n h =
     let e : near1 (move m a) b ≡ true = find-at (λ k. near1 (move k a) b) moves 0 h in
     let i : any (eqb m) moves ≡ true = find-in (λ k. near1 (move k a) b) moves 0 h in
     any-at (leaves 1 a b) moves m i
-    (⊎-elim (λ z. clash (any-at (λ k. eqb (move k a) b) moves m i z) n) (λ z. eq-eqb _ _ (dist-one (move m a) b z e)) (bool (eqb (move m a) b)))
+    (⊎-elim (λ z. clash (any-at (λ k. eqb (move k a) b) moves m i z) n) (λ z. eq-eqb _ _ (dist-one (move m a) b z e))
+    (bool (eqb (move m a) b)))
 
 pub first : (n a b : ℕ) → dist a b ≡ suc n → n < 2 → any (leaves n a b) moves ≡ true
 unfolding dist
@@ -104,8 +105,13 @@ pub first-byte : (n a b : ℕ) → dist a b ≡ suc n
     ⊎ ((eqb (firstByte n a b) 0x1B ≡ true) × (n ≡ 2))
 unfolding firstByte leaves
 first-byte n a b h =
+    let f = firstByte n a b in
     ⊎-elim (λ e. let i = find-in (leaves n a b) moves 0x1B e in
-    inl (⊎-elim (λ z. clash i (ap (λ (m : ℕ). any (eqb m) moves) (eqb-true (firstByte n a b) 0x1B z))) (λ z. z) (bool (eqb (firstByte n a b) 0x1B)), i, eqb-true _ _ (find-at (leaves n a b) moves 0x1B e)))
+    inl (
+      ⊎-elim (λ z. clash i (ap (λ (m : ℕ). any (eqb m) moves) (eqb-true f 0x1B z))) (λ z. z) (bool (eqb f 0x1B)),
+      i,
+      eqb-true _ _ (find-at (leaves n a b) moves 0x1B e),
+    ))
     (λ e. inr (
       eq-eqb (firstByte n a b) 0x1B (find-none (leaves n a b) moves 0x1B e),
       ⊎-elim (λ z. clash (first n a b h (ltb-true n 2 z)) e) (λ z. omega (arith, ltb-false n 2 z, dist-most a b)) (bool (ltb n 2)),

@@ -43,7 +43,9 @@ module _ (a b : ℕ) (ha : a < 40) (hb : b < 40) where
 
   least-move : (m : ℕ) → any (eqb m) moves ≡ true → least fewestOf a b ≤ 1 + fewestOf (move m a) b
   unfolding least move
-  least-move = each-move (λ m. least fewestOf a b ≤ 1 + fewestOf (move m a) b) (omega arith) (omega arith) (omega arith) (omega arith) (omega arith)
+  least-move =
+      each-move (λ m. least fewestOf a b ≤ 1 + fewestOf (move m a) b)
+      (omega arith) (omega arith) (omega arith) (omega arith) (omega arith)
 
   least-jump : least fewestOf a b ≤ 3
   unfolding least

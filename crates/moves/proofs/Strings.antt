@@ -10,24 +10,24 @@ use lib.ListN.{length}
 use borrow.Author.Tests.{eqb-true, eqb-false, eq-eqb, leb-true, le-leb, lt-ltb}
 use Rattle.laws.proofs.Tests.{bool, clash, both}
 use Rattle.moves.specs.Moves.{any, find, moves, move, dist}
-use Rattle.moves.specs.Ways.{leaves, firstByte, pathOf, path, Half, none, escape, place, leadsTo, atMost, Shortest}
+use Rattle.moves.specs.Ways.{leaves, firstByte, pathOf, path, Jump, none, escape, place, leadsTo, atMost, Shortest}
 use Rattle.moves.proofs.Moving.{dist-step, dist-most, dist-self, dist-zero, first-byte, each-move, length-path}
 
-abbrev sent : Half → ℕ
+abbrev sent : Jump → ℕ
 sent none = 0
 sent escape = 1
 sent place = 2
 
 -- no move string is shorter than the distance
-move-fewest : (bs : List ℕ) (k : Half) (a b : ℕ) → leadsTo k a b bs ≡ true → dist a b ≤ sent k + length bs
+move-fewest : (bs : List ℕ) (k : Jump) (a b : ℕ) → leadsTo k a b bs ≡ true → dist a b ≤ sent k + length bs
 unfolding leadsTo
 move-fewest [] none a b h = rw (eqb-true a b h, dist-self b) (omega arith)
 move-fewest [] escape a b h = clash h refl
 move-fewest [] place a b h = clash h refl
 move-fewest (x ∷ xs) none a b h =
     ⊎-elim (λ (e : eqb x 0x1B ≡ true). omega (arith, move-fewest xs escape a b (rw e at h)))
-    (λ (e : eqb x 0x1B ≡ false). let o = rw e at h in
-    omega (arith, dist-step x a b (both (any (eqb x) moves) _ o .0), move-fewest xs none (move x a) b (both (any (eqb x) moves) _ o .1)))
+    (λ (e : eqb x 0x1B ≡ false). let o = both (any (eqb x) moves) _ (rw e at h) in
+    omega (arith, dist-step x a b (o .0), move-fewest xs none (move x a) b (o .1)))
     (bool (eqb x 0x1B))
 move-fewest (x ∷ xs) escape a b h = omega (arith, move-fewest xs place a b (both (eqb x 0x48) _ h .1))
 move-fewest (x ∷ xs) place a b h = omega (arith, dist-most a b)
@@ -51,10 +51,14 @@ over-at y x (z ∷ zs) o m =
 find-least : (f : ℕ → Bool) (xs : List ℕ) (d x : ℕ) → rising xs ≡ true → any (eqb x) xs ≡ true → f x ≡ true → find f xs d ≤ x
 find-least f [] d x r m h = clash m refl
 find-least f (y ∷ ys) d x r m h =
+    let o = both (over y ys) _ r in
     ⊎-elim (λ (e : f y ≡ true). rw e
-    (⊎-elim (λ (z : eqb x y ≡ true). omega (arith, eqb-true x y z)) (λ (z : eqb x y ≡ false). over-at y x ys (both (over y ys) _ r .0) (rw z at m)) (bool (eqb x y))))
+    (⊎-elim (λ (z : eqb x y ≡ true). omega (arith, eqb-true x y z)) (λ (z : eqb x y ≡ false). over-at y x ys (o .0) (rw z at m))
+    (bool (eqb x y))))
     (λ (e : f y ≡ false). rw e
-    (⊎-elim (λ (z : eqb x y ≡ true). clash h (ap f (eqb-true x y z) ∙ e)) (λ (z : eqb x y ≡ false). find-least f ys d x (both (over y ys) _ r .1) (rw z at m) h) (bool (eqb x y))))
+    (⊎-elim (λ (z : eqb x y ≡ true). clash h (ap f (eqb-true x y z) ∙ e))
+    (λ (z : eqb x y ≡ false). find-least f ys d x (o .1) (rw z at m) h)
+    (bool (eqb x y))))
     (bool (f y))
 
 below-esc : (m : ℕ) → any (eqb m) moves ≡ true → m < 0x1B
@@ -64,16 +68,20 @@ less-head : (x y : ℕ) (xs ys : List ℕ) → x < y → atMost (x ∷ xs) (y �
 less-head x y xs ys h = rw (lt-ltb x y h)
 
 same-head : (x y : ℕ) (xs ys : List ℕ) → x ≡ y → atMost xs ys ≡ true → atMost (x ∷ xs) (y ∷ ys) ≡ true
-same-head x y xs ys e h = ap (λ (t : Bool). ltb x y || t) (ap (λ (t : Bool). t && atMost xs ys) (eq-eqb x y e) ∙ h) ∙ or-true (ltb x y)
+same-head x y xs ys e h =
+    ap (λ (t : Bool). ltb x y || t) (ap (λ (t : Bool). t && atMost xs ys) (eq-eqb x y e) ∙ h) ∙ or-true (ltb x y)
 
 -- 1Bh 48h b is the only string of three bytes that starts with 1Bh
-only-jump : (a b x : ℕ) (xs : List ℕ) → x ≡ 0x1B → length xs ≡ 2 → leadsTo escape a b xs ≡ true → atMost (0x1B ∷ 0x48 ∷ b ∷ []) (x ∷ xs) ≡ true
+only-jump : (a b x : ℕ) (xs : List ℕ) → x ≡ 0x1B → length xs ≡ 2 → leadsTo escape a b xs ≡ true
+    → atMost (0x1B ∷ 0x48 ∷ b ∷ []) (x ∷ xs) ≡ true
 unfolding leadsTo
 only-jump a b x [] e l h = absurd (omega arith)
 only-jump a b x (y ∷ []) e l h = absurd (omega arith)
 only-jump a b x (y ∷ z ∷ []) e l h =
-    same-head 0x1B x (0x48 ∷ b ∷ []) (y ∷ z ∷ []) (sym e) (same-head 0x48 y (b ∷ []) (z ∷ []) (sym (eqb-true y 0x48 (both (eqb y 0x48) _ h .0)))
-    (same-head b z [] [] (sym (eqb-true z b (both (leb z 0x27) _ (both (eqb y 0x48) _ h .1) .1))) refl))
+    let o = both (eqb y 0x48) _ h in
+    same-head 0x1B x (0x48 ∷ b ∷ []) (y ∷ z ∷ []) (sym e)
+    (same-head 0x48 y (b ∷ []) (z ∷ []) (sym (eqb-true y 0x48 (o .0)))
+    (same-head b z [] [] (sym (eqb-true z b (both (leb z 0x27) _ (o .1) .1))) refl))
 only-jump a b x (y ∷ z ∷ w ∷ ws) e l h = absurd (omega arith)
 
 leaves-at : (n a b x : ℕ) → dist (move x a) b ≡ n → leaves n a b x ≡ true
@@ -85,9 +93,11 @@ unfolding pathOf leadsTo firstByte
 smallest zero a b bs d h l = refl
 smallest (suc n) a b [] d h l = absurd (omega arith)
 smallest (suc n) a b (x ∷ xs) d h l =
+    let f = firstByte n a b in
+    let on = pathOf n (move f a) b in
     ⊎-elim
     (λ (e : eqb x 0x1B ≡ true). ⊎-elim
-    (λ r. rw (r .0) (less-head (firstByte n a b) x (pathOf n (move (firstByte n a b) a) b) xs (omega (arith, eqb-true x 0x1B e, below-esc (firstByte n a b) (r .1)))))
+    (λ r. rw (r .0) (less-head f x on xs (omega (arith, eqb-true x 0x1B e, below-esc f (r .1)))))
     (λ r. rw (r .0) (only-jump a b x xs (eqb-true x 0x1B e) (omega (arith, r .1)) (rw e at h)))
     (first-byte n a b d))
     (λ (e : eqb x 0x1B ≡ false).
@@ -95,14 +105,14 @@ smallest (suc n) a b (x ∷ xs) d h l =
     let i : any (eqb x) moves ≡ true = both (any (eqb x) moves) _ o .0 in
     let t : leadsTo none (move x a) b xs ≡ true = both (any (eqb x) moves) _ o .1 in
     let c : dist (move x a) b ≡ n = omega (arith, dist-step x a b i, move-fewest xs none (move x a) b t) in
-    let v : firstByte n a b ≤ x = find-least (leaves n a b) moves 0x1B x refl i (leaves-at n a b x c) in
+    let v : f ≤ x = find-least (leaves n a b) moves 0x1B x refl i (leaves-at n a b x c) in
     ⊎-elim
     (λ r. rw (r .0) (⊎-elim
-    (λ (z : eqb (firstByte n a b) x ≡ true). let g = eqb-true (firstByte n a b) x z in
-    same-head (firstByte n a b) x (pathOf n (move (firstByte n a b) a) b) xs g (rw g (smallest n (move x a) b xs c t (omega arith))))
-    (λ (z : eqb (firstByte n a b) x ≡ false). less-head (firstByte n a b) x (pathOf n (move (firstByte n a b) a) b) xs (omega (arith, eqb-false (firstByte n a b) x z)))
-    (bool (eqb (firstByte n a b) x))))
-    (λ r. absurd (omega (arith, below-esc x i, eqb-true (firstByte n a b) 0x1B (r .0))))
+    (λ (z : eqb f x ≡ true). let g = eqb-true f x z in
+    same-head f x on xs g (rw g (smallest n (move x a) b xs c t (omega arith))))
+    (λ (z : eqb f x ≡ false). less-head f x on xs (omega (arith, eqb-false f x z)))
+    (bool (eqb f x))))
+    (λ r. absurd (omega (arith, below-esc x i, eqb-true f 0x1B (r .0))))
     (first-byte n a b d))
     (bool (eqb x 0x1B))
 

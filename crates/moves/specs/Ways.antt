@@ -28,11 +28,11 @@ path a b = pathOf (dist a b) a b
 -- Against all move strings ---------------------------------------------------------------------------------------------------
 
 -- how much of 1Bh 48h p has come
-pub data Half : Type 0 where
-  none escape place : Half
+pub data Jump : Type 0 where
+  none escape place : Jump
 
 -- a string of moves alone leads from a to b: one-byte moves, and 1Bh 48h p with p at most 27h
-unfoldable pub leadsTo : Half → ℕ → ℕ → List ℕ → Bool
+unfoldable pub leadsTo : Jump → ℕ → ℕ → List ℕ → Bool
 leadsTo none a b [] = eqb a b
 leadsTo escape a b [] = false
 leadsTo place a b [] = false

@@ -17,10 +17,10 @@ use Rattle.moves.specs.Ways.{path}
 use Rattle.moves.proofs.Interpreter.{Ready}
 use Rattle.planner.specs.Plan.{flagged, planOf, plan, Pictured, Delivers}
 use Rattle.planner.specs.Fonts.{wrongFor, fontsPlanOf, fontsPlan, picturedIn, FontsDelivers}
-use Rattle.planner.proofs.Glass.{wrongIn, run, ordered}
+use Rattle.planner.proofs.Canvas.{wrongIn, run, ordered}
 use Rattle.planner.proofs.Costs.{flagged-yes, flagged-no, flagged-same, switch-none, cost-plain, cost-most, length-plan}
 use Rattle.planner.proofs.Picture.{wrongsIn, Switches, deliver, stays, switches-both, Reaches, plan-reaches, plan-fewest}
-use Rattle.planner.proofs.Seam.{pendingAt, fontAt, markAt, glassOf, run-is, order-is, font-order-is, ends}
+use Rattle.planner.proofs.Seam.{pendingAt, fontAt, markAt, canvasOf, run-is, order-is, font-order-is, ends}
 
 -- a condition that can be planned from, and codes that it can show
 pub record Plannable (c : Condition) (wanted : List ℕ) (asked : ℕ) : Type 0 where
@@ -45,18 +45,18 @@ pub record Switchable (c : Condition) (fonts : List ℕ) : Type 0 where
 -- Any set of steps ----------------------------------------------------------------------------------------------------------------
 
 -- a string that reaches the picture gives it and leaves everything else
-gives-it : (switching : Bool) (c : Condition) → Ready c → (ws gs : List ℕ) (q : ℕ) (bs : List ℕ) → Reaches switching (c .euro) (isChar c) ws gs q (glassOf c) bs
-    → runOf c bs ≡ picturedIn c ws gs q (run switching (c .euro) (isChar c) (glassOf c) bs .font)
+gives-it : (switching : Bool) (c : Condition) → Ready c → (ws gs : List ℕ) (q : ℕ) (bs : List ℕ) → Reaches switching (c .euro) (isChar c) ws gs q (canvasOf c) bs
+    → runOf c bs ≡ picturedIn c ws gs q (run switching (c .euro) (isChar c) (canvasOf c) bs .font)
 gives-it switching c r ws gs q bs g =
-    let f = run switching (c .euro) (isChar c) (glassOf c) bs .font in
-    let e = ends switching (c .euro) (isChar c) bs (glassOf c) 0 (g .steps) in
+    let f = run switching (c .euro) (isChar c) (canvasOf c) bs .font in
+    let e = ends switching (c .euro) (isChar c) bs (canvasOf c) 0 (g .steps) in
     run-is switching c r bs (g .steps)
     ∙ (λ i. withEuro (withFont (withPending (withCursor (withCells c (g .codes i) (g .fonts i)) (g .cursor i)) (pendingAt (e i))) (fontAt (e i) f)) (markAt (e i) (c .euro)))
     ∙ (λ i. withPending (picturedIn c ws gs q f) (sym (r .whole) i))
 
 -- a string after which the picture is there reaches it
-reaches-it : (switching : Bool) (c : Condition) → Ready c → (ws gs : List ℕ) (q : ℕ) (bs : List ℕ) → ordered switching (c .euro) (isChar c) (glassOf c) 0 bs ≡ true
-    → Pictured (runOf c bs) ws gs q → Reaches switching (c .euro) (isChar c) ws gs q (glassOf c) bs
+reaches-it : (switching : Bool) (c : Condition) → Ready c → (ws gs : List ℕ) (q : ℕ) (bs : List ℕ) → ordered switching (c .euro) (isChar c) (canvasOf c) 0 bs ≡ true
+    → Pictured (runOf c bs) ws gs q → Reaches switching (c .euro) (isChar c) ws gs q (canvasOf c) bs
 reaches-it switching c r ws gs q bs s g =
     let e = sym (run-is switching c r bs s) in
     record {
@@ -75,8 +75,8 @@ record Serves (switching : Bool) (Ok : ℕ → Type 0) (c : Condition) (wanted g
   selected : ℕ
   ok : Ok selected
   gives : runOf c bytes ≡ picturedIn c wanted gs asked selected
-  steps : ordered switching (c .euro) (isChar c) (glassOf c) 0 bytes ≡ true
-  fewest : (bs : List ℕ) → ordered switching (c .euro) (isChar c) (glassOf c) 0 bs ≡ true → Pictured (runOf c bs) wanted gs asked → length bytes ≤ length bs
+  steps : ordered switching (c .euro) (isChar c) (canvasOf c) 0 bytes ≡ true
+  fewest : (bs : List ℕ) → ordered switching (c .euro) (isChar c) (canvasOf c) 0 bs ≡ true → Pictured (runOf c bs) wanted gs asked → length bytes ≤ length bs
 
 serves : (switching : Bool) (Ok : ℕ → Type 0) (font : ℕ → ℕ) (c : Condition) (wanted gs : List ℕ) (asked : ℕ) → Plannable c wanted asked
     → length gs ≡ 40 → ((i : ℕ) → i < 40 → getD gs i 0 ≡ font i) → Ok (c .font) → ((i : ℕ) → i < 40 → Ok (font i))
@@ -86,7 +86,7 @@ serves switching Ok font c wanted gs asked r long same ok fonts-ok switches =
     (deliver switching (c .euro) (isChar c) Ok font wanted asked (r .escape-free) (r .moves-free) switches fonts-ok (r .shown) (r .asked-40)
     40 0 (c .cursor) 0 (c .font) (c .codes) (c .fonts) ok (r .codes-40) (r .fonts-40) refl (omega arith) (λ j l. absurd (omega arith))) in
     record {
-      selected = run switching (c .euro) (isChar c) (glassOf c) (made font c wanted asked) .font;
+      selected = run switching (c .euro) (isChar c) (canvasOf c) (made font c wanted asked) .font;
       ok = g .1;
       gives = gives-it switching c (r .ready) wanted gs asked (made font c wanted asked) (g .0);
       steps = g .0 .steps;

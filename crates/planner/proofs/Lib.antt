@@ -1,4 +1,4 @@
-pub mod Glass
+pub mod Canvas
 pub mod Costs
 pub mod Picture
 pub mod Seam

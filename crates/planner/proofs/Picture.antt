@@ -12,7 +12,7 @@ use borrow.Author.Tests.{eqb-true, eqb-false, eq-eqb, leb-true, le-leb, not-fals
 use Rattle.laws.proofs.Tests.{bool, clash, both}
 use Rattle.moves.specs.Moves.{any, next, moves, move, dist}
 use Rattle.moves.specs.Ways.{path, pathOf, firstByte}
-use Rattle.planner.proofs.Glass.{Part, none, escape, place, back, Glass, glass, wrongIn, stepAt, run, allowed, lowAt, whole, ordered, by-kind}
+use Rattle.planner.proofs.Canvas.{Part, none, escape, place, back, Canvas, canvas, wrongIn, stepAt, run, allowed, lowAt, whole, ordered, by-kind}
 use Rattle.planner.specs.Plan.{flagged}
 use Rattle.planner.specs.Fonts.{switch, fontsPlanOf}
 use Rattle.moves.proofs.Moving.{dist-step, dist-most, dist-self, dist-zero, first-byte, next-below, move-below}
@@ -58,7 +58,7 @@ wrongsIn font ws cs fs = flagged (wrongIn font ws cs fs) 40 0
 -- Fewest -----------------------------------------------------------------------------------------------------------------------
 
 -- every cell is right, and the cursor is where asked
-pub record Done (font : ℕ → ℕ) (ws : List ℕ) (q : ℕ) (g : Glass) : Type 0 where
+pub record Done (font : ℕ → ℕ) (ws : List ℕ) (q : ℕ) (g : Canvas) : Type 0 where
   pub right : (i : ℕ) → i < 40 → wrongIn font ws (g .codes) (g .fonts) i ≡ false
   pub here : g .cursor ≡ q
 
@@ -83,7 +83,7 @@ module _ (switching mark : Bool) (chars : ℕ → Bool) (font : ℕ → ℕ) (ws
   back-one e f h = omega (arith, switch-back mark f h, ap backLength e)
 
   fewest : (bs : List ℕ) (k : Part) (p lo f : ℕ) (cs fs : List ℕ) → length cs ≡ 40 → length fs ≡ 40 → p < 40
-      → ordered switching mark chars (glass k p f cs fs) lo bs ≡ true → Done font ws q (run switching mark chars (glass k p f cs fs) bs) → Paid k p lo f cs fs bs
+      → ordered switching mark chars (canvas k p f cs fs) lo bs ≡ true → Done font ws q (run switching mark chars (canvas k p f cs fs) bs) → Paid k p lo f cs fs bs
   unfolding stepAt allowed lowAt whole total
   fewest [] none p lo f cs fs lc lf hp o d =
       record { below = λ i l h. d .right i h; enough = rw (flagged-none (wrongIn font ws cs fs) 40 0 (λ j l. d .right j l), d .here, dist-self q) (omega arith) }
@@ -125,40 +125,40 @@ module _ (switching mark : Bool) (chars : ℕ → Bool) (font : ℕ → ℕ) (ws
 
 -- `Ok` holds of the fonts that may be selected: one alone, or both
 module _ (switching mark : Bool) (chars : ℕ → Bool) (Ok : ℕ → Type 0) (font : ℕ → ℕ) (ws : List ℕ) (q : ℕ) where
-  pub record Final (g : Glass) : Type 0 where
+  pub record Final (g : Canvas) : Type 0 where
     pub codesLength : length (g .codes) ≡ 40
     pub fontsLength : length (g .fonts) ≡ 40
     pub done : Done font ws q g
     pub selected : Ok (g .font)
 
   -- a string of steps that gives the picture and the cursor
-  pub record Good (g : Glass) (lo : ℕ) (bs : List ℕ) : Type 0 where
+  pub record Good (g : Canvas) (lo : ℕ) (bs : List ℕ) : Type 0 where
     pub steps : ordered switching mark chars g lo bs ≡ true
     pub final : Final (run switching mark chars g bs)
 
   -- the switch from any such font to any other is of the steps
   abbrev pub Switches : Type 0
-  Switches = (f h p lo : ℕ) (cs fs t : List ℕ) → Ok f → Ok h → Good (glass none p h cs fs) lo t → Good (glass none p f cs fs) lo (switch mark f h ++ t)
+  Switches = (f h p lo : ℕ) (cs fs t : List ℕ) → Ok f → Ok h → Good (canvas none p h cs fs) lo t → Good (canvas none p f cs fs) lo (switch mark f h ++ t)
 
   put-good : (p lo b f : ℕ) (cs fs t : List ℕ) → chars b ≡ true → lo ≤ p
-      → Good (glass none (next p) f (set cs p b) (set fs p f)) (suc p) t → Good (glass none p f cs fs) lo (b ∷ t)
+      → Good (canvas none (next p) f (set cs p b) (set fs p f)) (suc p) t → Good (canvas none p f cs fs) lo (b ∷ t)
   unfolding stepAt allowed lowAt
   put-good p lo b f cs fs t e h g = record { steps = rw (e, le-leb lo p h) (g .steps); final = rw e (g .final) }
 
   module _ (free27 : chars 0x1B ≡ false) (free : (b : ℕ) → any (eqb b) moves ≡ true → chars b ≡ false) where
     move-good : (m p lo f : ℕ) (cs fs t : List ℕ) → any (eqb m) moves ≡ true → eqb m 0x1B ≡ false
-        → Good (glass none (move m p) f cs fs) lo t → Good (glass none p f cs fs) lo (m ∷ t)
+        → Good (canvas none (move m p) f cs fs) lo t → Good (canvas none p f cs fs) lo (m ∷ t)
     unfolding stepAt allowed lowAt
     move-good m p lo f cs fs t i z g =
         let c = free m i in
         record { steps = rw (c, z, i) (g .steps); final = rw (c, z, i) (g .final) }
 
     jump-good : (p lo r f : ℕ) (cs fs t : List ℕ) → r < 40
-        → Good (glass none r f cs fs) lo t → Good (glass none p f cs fs) lo (0x1B ∷ 0x48 ∷ r ∷ t)
+        → Good (canvas none r f cs fs) lo t → Good (canvas none p f cs fs) lo (0x1B ∷ 0x48 ∷ r ∷ t)
     unfolding stepAt allowed lowAt
     jump-good p lo r f cs fs t h g = record { steps = rw (free27, le-leb r 0x27 (omega arith)) (g .steps); final = rw free27 (g .final) }
 
-    walk-good : (n a b lo f : ℕ) (cs fs t : List ℕ) → dist a b ≡ n → b < 40 → Good (glass none b f cs fs) lo t → Good (glass none a f cs fs) lo (pathOf n a b ++ t)
+    walk-good : (n a b lo f : ℕ) (cs fs t : List ℕ) → dist a b ≡ n → b < 40 → Good (canvas none b f cs fs) lo t → Good (canvas none a f cs fs) lo (pathOf n a b ++ t)
     unfolding pathOf
     walk-good zero a b lo f cs fs t e h g = rw (dist-zero a b e) g
     walk-good (suc n) a b lo f cs fs t e h g =
@@ -170,7 +170,7 @@ module _ (switching mark : Bool) (chars : ℕ → Bool) (Ok : ℕ → Type 0) (f
     module _ (switches : Switches) (fonts-ok : (i : ℕ) → i < 40 → Ok (font i)) (shown : (i : ℕ) → i < 40 → chars (getD ws i 0) ≡ true) (q-in : q < 40) where
       pub deliver : (n i p lo f : ℕ) (cs fs : List ℕ) → Ok f → length cs ≡ 40 → length fs ≡ 40 → i + n ≡ 40 → lo ≤ i
           → ((j : ℕ) → j < i → wrongIn font ws cs fs j ≡ false)
-          → Good (glass none p f cs fs) lo (fontsPlanOf mark ws font q p f (flagged (wrongIn font ws cs fs) n i))
+          → Good (canvas none p f cs fs) lo (fontsPlanOf mark ws font q p f (flagged (wrongIn font ws cs fs) n i))
       unfolding fontsPlanOf path flagged whole
       deliver zero i p lo f cs fs k lc lf e l h =
           rw (← append-nil (path p q)) (walk-good (dist p q) p q lo f cs fs [] refl q-in
@@ -201,7 +201,7 @@ stays switching mark chars f font ws q g h p lo cs fs t eg eh z =
 -- both fonts, where 18h, 19h and 1Ah are steps
 module _ (mark : Bool) (chars : ℕ → Bool) (font : ℕ → ℕ) (ws : List ℕ) (q : ℕ) (free18 : chars 0x18 ≡ false) (free19 : chars 0x19 ≡ false) (free1A : chars 0x1A ≡ false) where
   abbrev Gets : ℕ → ℕ → ℕ → List ℕ → List ℕ → List ℕ → Type 0
-  Gets f p lo cs fs t = Good true mark chars (λ h. h ≤ 1) font ws q (glass none p f cs fs) lo t
+  Gets f p lo cs fs t = Good true mark chars (λ h. h ≤ 1) font ws q (canvas none p f cs fs) lo t
 
   on-good : (f p lo : ℕ) (cs fs t : List ℕ) → Gets 1 p lo cs fs t → Gets f p lo cs fs (0x19 ∷ t)
   unfolding stepAt allowed lowAt
@@ -227,9 +227,9 @@ module _ (mark : Bool) (chars : ℕ → Bool) (font : ℕ → ℕ) (ws : List �
 
 -- The picture ------------------------------------------------------------------------------------------------------------------
 
--- Demand 3 over the glass. A string reaches the picture: read from g it is of the planner's steps in reading order, and it ends in
+-- Demand 3 over the canvas. A string reaches the picture: read from g it is of the planner's steps in reading order, and it ends in
 -- the wanted codes and fonts, and the cursor where asked
-pub record Reaches (switching mark : Bool) (chars : ℕ → Bool) (ws gs : List ℕ) (q : ℕ) (g : Glass) (bs : List ℕ) : Type 0 where
+pub record Reaches (switching mark : Bool) (chars : ℕ → Bool) (ws gs : List ℕ) (q : ℕ) (g : Canvas) (bs : List ℕ) : Type 0 where
   pub steps : ordered switching mark chars g 0 bs ≡ true
   pub codes : run switching mark chars g bs .codes ≡ ws
   pub fonts : run switching mark chars g bs .fonts ≡ gs
@@ -242,10 +242,10 @@ module _ (switching mark : Bool) (chars : ℕ → Bool) (font : ℕ → ℕ) (ws
   abbrev planHere : List ℕ
   planHere = fontsPlanOf mark ws font q p f (wrongsIn font ws cs fs)
 
-  pub plan-reaches : (Ok : ℕ → Type 0) → Good switching mark chars Ok font ws q (glass none p f cs fs) 0 planHere
-      → Reaches switching mark chars ws gs q (glass none p f cs fs) planHere × Ok (run switching mark chars (glass none p f cs fs) planHere .font)
+  pub plan-reaches : (Ok : ℕ → Type 0) → Good switching mark chars Ok font ws q (canvas none p f cs fs) 0 planHere
+      → Reaches switching mark chars ws gs q (canvas none p f cs fs) planHere × Ok (run switching mark chars (canvas none p f cs fs) planHere .font)
   plan-reaches Ok g =
-      let r = run switching mark chars (glass none p f cs fs) planHere in
+      let r = run switching mark chars (canvas none p f cs fs) planHere in
       let d = g .final .done .right in (
         record {
           steps = g .steps;
@@ -257,9 +257,9 @@ module _ (switching mark : Bool) (chars : ℕ → Bool) (font : ℕ → ℕ) (ws
         g .final .selected,
       )
 
-  pub plan-fewest : (bs : List ℕ) → Reaches switching mark chars ws gs q (glass none p f cs fs) bs → length planHere ≤ length bs
+  pub plan-fewest : (bs : List ℕ) → Reaches switching mark chars ws gs q (canvas none p f cs fs) bs → length planHere ≤ length bs
   plan-fewest bs h =
-      let r = run switching mark chars (glass none p f cs fs) bs in
+      let r = run switching mark chars (canvas none p f cs fs) bs in
       let d : Done font ws q r = record {
         right = λ i l. right-wrong font ws (r .codes) (r .fonts) i (ap (λ (k : List ℕ). getD k i 0) (h .codes)) (ap (λ (k : List ℕ). getD k i 0) (h .fonts) ∙ same i l);
         here = h .cursor;

@@ -14,7 +14,7 @@ use Rattle.moves.specs.Ways.{path}
 use Rattle.planner.specs.Plan.{flagged, atStart}
 use Rattle.planner.specs.Fonts.{switch, fontsPlanOf}
 use Rattle.moves.proofs.Moving.{next-below, path-most}
-use Rattle.planner.proofs.Glass.{wrongIn}
+use Rattle.planner.proofs.Canvas.{wrongIn}
 use Rattle.planner.proofs.Costs.{flagged-yes, flagged-no}
 
 pub sets-append : (l : List ℕ) (i : ℕ) (xs ys : List ℕ) → sets l i (xs ++ ys) ≡ sets (sets l i xs) (i + length xs) ys
@@ -117,8 +117,11 @@ module _ (e : Bool) (ws gs cs fs : List ℕ) (q p₀ f₀ : ℕ) where
     way-room h b = omega (arith, v .count, v .long, v .room, rest-length h b)
 
     pub code-room : (out′ : List ℕ) (at : ℕ) → i < 40 → bad i ≡ true → (at ≡ k + length (path p i)) × (out′ ≡ sets out k (path p i))
-        → at + length (written f i) ≤ length out′
-    code-room out′ at h b d = omega (arith, v .count, v .long, v .room, rest-length h b, d .0, ap length (d .1) ∙ length-sets out k (path p i))
+        → at + length (switch e f (getD gs i 0)) < length out′
+    code-room out′ at h b d =
+        let l : length out′ ≡ length out = ap length (d .1) ∙ length-sets out k (path p i) in
+        let w = length-append (switch e f (getD gs i 0)) (getD ws i 0 ∷ []) in
+        omega (arith, v .count, v .long, v .room, rest-length h b, d .0, l, w)
 
     pub plan-write : (mid out′ : List ℕ) (at p′ f′ k′ : ℕ) → i < 40 → bad i ≡ true
         → (at ≡ k + length (path p i)) × (mid ≡ sets out k (path p i))

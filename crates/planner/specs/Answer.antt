@@ -31,8 +31,8 @@ unfoldable pub someLacks : Users → List ℕ → Bool
 someLacks u [] = false
 someLacks u (w ∷ ws) = lacks u w || someLacks u ws
 
--- the lowest refusal number that holds, 0 for none. What differs between the planners: whether the lengths are right, what they are asked is
--- in range, a user character sits on the code of a step, and the output is too short
+-- the lowest refusal number that holds, 0 for none. What differs between the planners: whether the lengths are right, what they are
+-- asked is in range, a user character sits on the code of a step, and the output is too short
 unfoldable pub refusalBy : Bool → Bool → Bool → Bool → Condition → List ℕ → ℕ
 refusalBy long ranged blocked short c wanted =
     cond (not long) 1
@@ -51,7 +51,8 @@ planRefusal c wanted asked room = refusalBy (eqb (length wanted) 40) (leb asked 
 -- for two fonts 1 also for fonts not 40, 3 for a font above 1, 10 under 104 bytes
 unfoldable pub fontsRefusal : Condition → List ℕ → List ℕ → ℕ → ℕ → ℕ
 fontsRefusal c wanted fonts asked room =
-    refusalBy (eqb (length wanted) 40 && eqb (length fonts) 40) (leb asked 39 && allUpTo 1 fonts) (onMove (c .users) || onSwitch (c .users)) (ltb room 104) c wanted
+    refusalBy (eqb (length wanted) 40 && eqb (length fonts) 40) (leb asked 39 && allUpTo 1 fonts)
+    (onMove (c .users) || onSwitch (c .users)) (ltb room 104) c wanted
 
 -- Answers -------------------------------------------------------------------------------------------------------------------------
 
@@ -66,8 +67,8 @@ answerBy refusal bytes = record { refusal = refusal; length = length (bytesBy re
 abbrev pub outBy : ℕ → List ℕ → List ℕ → List ℕ
 outBy refusal bytes out = atStart (bytesBy refusal bytes) out
 
--- What a planner promises of its answer r and of the output at exit: they are these for all inputs, by its refusal number and its plan; and
--- the bytes of an accepted plan, which stand at the output's start, are what it is for
+-- What a planner promises of its answer r and of the output at exit: they are these for all inputs, by its refusal number and its
+-- plan; and the bytes of an accepted plan, which stand at the output's start, are what it is for
 pub record Promise (number : ℕ) (bytes : List ℕ) (For : List ℕ → Type 0) (before after : List ℕ) (r : Planned) : Type 0 where
   pub answer : r ≡ answerBy number bytes
   pub output : after ≡ outBy number bytes before
@@ -81,4 +82,5 @@ Plans c wanted asked before after r =
 -- what `plan_fonts` promises
 abbrev pub PlansFonts : Condition → List ℕ → List ℕ → ℕ → List ℕ → List ℕ → Planned → Type 0
 PlansFonts c wanted fonts asked before after r =
-    Promise (fontsRefusal c wanted fonts asked (length before)) (fontsPlan c wanted fonts asked) (FontsDelivers c wanted fonts asked) before after r
+    Promise (fontsRefusal c wanted fonts asked (length before)) (fontsPlan c wanted fonts asked) (FontsDelivers c wanted fonts asked)
+    before after r

@@ -38,8 +38,11 @@ fontOrder c bs = eqb (c .mode) 1 && inFontOrder (c .euro) c 0 bs
 -- The plan ----------------------------------------------------------------------------------------------------------------------
 
 -- a cell is wrong when its code or its font differs from the wanted one
+abbrev pub wrongCell : ℕ → ℕ → ℕ → ℕ → Bool
+wrongCell code font wanted wantedFont = not (eqb code wanted && eqb font wantedFont)
+
 unfoldable pub wrongFor : Condition → List ℕ → List ℕ → ℕ → Bool
-wrongFor c wanted fonts i = not (eqb (getD (c .codes) i 0) (getD wanted i 0) && eqb (getD (c .fonts) i 0) (getD fonts i 0))
+wrongFor c wanted fonts i = wrongCell (getD (c .codes) i 0) (getD (c .fonts) i 0) (getD wanted i 0) (getD fonts i 0)
 
 -- the switch from a font to another: 19h, and 18h to go back; while the Euro mark is on, 18h 1Ah
 unfoldable pub switch : Bool → ℕ → ℕ → List ℕ
@@ -64,7 +67,8 @@ abbrev pub picturedIn : Condition → List ℕ → List ℕ → ℕ → ℕ → 
 picturedIn c wanted fonts asked f = withFont (withCursor (withCells c wanted fonts) asked) f
 
 -- the bytes give the picture and the cursor and leave everything else but the selected font, which is free at the end; they are a
--- reading-order string of the larger set of steps; no such string after which the picture is there is shorter; and they are at most 104
+-- reading-order string of the larger set of steps; no such string after which the picture is there is shorter; and they are at
+-- most 104
 pub record FontsDelivers (c : Condition) (wanted fonts : List ℕ) (asked : ℕ) (bytes : List ℕ) : Type 0 where
   pub gives : runOf c bytes ≡ picturedIn c wanted fonts asked (runOf c bytes .font)
   pub ordered : fontOrder c bytes ≡ true

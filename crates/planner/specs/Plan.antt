@@ -39,10 +39,11 @@ pub record Pictured (c : Condition) (wanted wantedFonts : List ℕ) (asked : ℕ
   pub fonts : c .fonts ≡ wantedFonts
   pub cursor : c .cursor ≡ asked
 
--- Demand 3: the bytes give the picture and the cursor and leave everything else, by what a byte does; they are a reading-order string;
--- no reading-order string after which the picture is there is shorter; and they are at most 44
+-- Demand 3: the bytes give the picture and the cursor and leave everything else, by what a byte does; they are a reading-order
+-- string; no reading-order string after which the picture is there is shorter; and they are at most 44
 pub record Delivers (c : Condition) (wanted : List ℕ) (asked : ℕ) (bytes : List ℕ) : Type 0 where
   pub gives : runOf c bytes ≡ pictured c wanted asked
   pub ordered : readingOrder c bytes ≡ true
-  pub fewest : (bs : List ℕ) → readingOrder c bs ≡ true → Pictured (runOf c bs) wanted (replicate 40 (c .font)) asked → length bytes ≤ length bs
+  pub fewest : (bs : List ℕ) → readingOrder c bs ≡ true → Pictured (runOf c bs) wanted (replicate 40 (c .font)) asked
+      → length bytes ≤ length bs
   pub most : length bytes ≤ 44

@@ -3,17 +3,15 @@ use crate::ways::put_way;
 use condition::Condition;
 ghost use mathlib.Core.Path.{_≡_};
 ghost use mathlib.Core.List.{[], _∷_, _++_};
-ghost use mathlib.Core.Bool.{_&&_, not};
 ghost use Prim.Native.Nat.{_+_, _<_, _≤_};
-ghost use lib.Dec.{eqb};
 ghost use lib.ListN.{length};
 ghost use lib.Seq.{sets};
 ghost use Rattle.moves.specs.Moves.{Numbers};
 ghost use Rattle.planner.specs.Plan.{atStart};
-ghost use Rattle.planner.specs.Fonts.{switch, fontsPlan};
+ghost use Rattle.planner.specs.Fonts.{wrongCell, switch, fontsPlan};
 
 fn differs(code: u8, font: u8, wanted: u8, selected: u8) -> bool
-    ensures { λ r. ⌜ r ≡ not (eqb code wanted && eqb font selected) ⌝ }
+    ensures { λ r. ⌜ r ≡ wrongCell code font wanted selected ⌝ }
 {
     !((code == wanted) & (font == selected))
 }
@@ -21,7 +19,8 @@ fn differs(code: u8, font: u8, wanted: u8, selected: u8) -> bool
 // Puts the switch from a font to another at k; answers the place behind it.
 fn put_switch(out: &mut [u8], k: usize, euro: bool, from: u8, to: u8) -> usize
     requires { ⌜ k + length (switch euro from to) ≤ length (now out) ⌝ }
-    ensures { λ r. ⌜ (r ≡ k + length (switch euro from to)) × (now (out .exit) ≡ sets (now (out .entry)) k (switch euro from to)) ⌝ }
+    ensures { λ r. ⌜ (r ≡ k + length (switch euro from to))
+        × (now (out .exit) ≡ sets (now (out .entry)) k (switch euro from to)) ⌝ }
 {
     if from == to {
         return k;
@@ -40,7 +39,7 @@ fn put_switch(out: &mut [u8], k: usize, euro: bool, from: u8, to: u8) -> usize
 
 // Puts a code at k, and ahead of it the switch that it needs; answers the place behind it.
 fn put_code(out: &mut [u8], k: usize, euro: bool, from: u8, to: u8, code: u8) -> usize
-    requires { ⌜ k + length (switch euro from to ++ code ∷ []) ≤ length (now out) ⌝ }
+    requires { ⌜ k + length (switch euro from to) < length (now out) ⌝ }
     ensures { λ r. ⌜ (r ≡ k + length (switch euro from to ++ code ∷ []))
         × (now (out .exit) ≡ sets (now (out .entry)) k (switch euro from to ++ code ∷ [])) ⌝ }
 {

@@ -5,6 +5,9 @@ ghost use mathlib.Core.Bool.{cond};
 ghost use Rattle.users.specs.Users.{isUser, usersIn};
 ghost use Rattle.planner.specs.Answer.{onMove, onSwitch, lacks, someLacks, refusalBy, planRefusal, fontsRefusal};
 
+// The last place of the cursor.
+const LAST: u32 = 39;
+
 fn is_user(bytes: &[u8], count: u8, code: u8) -> bool
     ensures { λ r. ⌜ r ≡ isUser (usersIn (now (bytes .entry)) count) code ⌝ }
 {
@@ -120,10 +123,10 @@ pub(crate) fn of_plan(c: Condition, wanted: &[u8], asked: u32, room: usize) -> u
     let bytes = u.bytes;
     let blocked = on_move(&bytes, u.count);
     refusal_by(
-        wanted.len() == 40,
-        asked <= 39,
+        wanted.len() == Condition::CELLS,
+        asked <= LAST,
         blocked,
-        room < 44,
+        room < crate::ROOM,
         c,
         wanted,
     )
@@ -137,12 +140,12 @@ pub(crate) fn of_fonts(c: Condition, wanted: &[u8], fonts: &[u8], asked: u32, ro
     let bytes = u.bytes;
     let moving = on_move(&bytes, u.count);
     let switching = on_switch(&bytes, u.count);
-    let ranged = condition::up_to(1, fonts);
+    let ranged = condition::up_to(Condition::LAST_FONT, fonts);
     refusal_by(
-        (wanted.len() == 40) & (fonts.len() == 40),
-        (asked <= 39) & ranged,
+        (wanted.len() == Condition::CELLS) & (fonts.len() == Condition::CELLS),
+        (asked <= LAST) & ranged,
         moving | switching,
-        room < 104,
+        room < crate::ROOM_FONTS,
         c,
         wanted,
     )

@@ -6,6 +6,11 @@ mod bytes;
 mod checks;
 mod ways;
 
+// The least room for a plan in one font, and for one in two: no plan is longer.
+pub const ROOM: usize = 44;
+
+pub const ROOM_FONTS: usize = 104;
+
 // What a planner answers: a refusal number, 0 when accepted, and the plan's length, 0 when refused.
 pub struct Planned {
     pub refusal: u8,
@@ -25,7 +30,7 @@ pub fn plan(c: Condition, wanted: &[u8], asked: u32, out: &mut [u8]) -> Planned
             length: 0,
         };
     }
-    let fonts = [c.font; 40];
+    let fonts = [c.font; Condition::CELLS];
     let table = moves::numbers();
     let k = bytes::put_plan(&table, c, wanted, &fonts, asked as u8, out);
     Planned {

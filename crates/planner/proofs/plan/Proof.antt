@@ -5,6 +5,7 @@ use native.Mathlib.Omega.{arith}
 use lib.ListN.{length}
 use Rattle.moves.specs.Moves.{Numbers}
 use Rattle.moves.proofs.Entries.{numbers-right}
+use Rattle.planner.specs.Answer.{planRefusal}
 use Rattle.planner.proofs.Demand.{plan-most, one-font}
 use Rattle.planner.proofs.Refusals.{accepted, plan-fits, plan-delivers, refused, taken-on}
 use borrow.Author.Needs.{needs}
@@ -30,15 +31,18 @@ cast-put-plan c =
 
 put-plan-requires : tie.Need-put-plan-requires
 put-plan-requires c κs =
-    let a = c .before .before .before .before .before .before .before .before .args in
-    let t = accepted _ _ _ _ (sym (c .before .before .before .before .before .of-plan .ensures) ∙ c .before .before .before .before .if1 .left) in
-    let numbers = subst⁻¹ (λ (rows : List (List ℕ)). Numbers rows) (c .before .before .before .numbers .ensures .answer) numbers-right in
+    let f = c .before .before .before .before in
+    let a = f .before .before .before .before .args in
+    let t = accepted _ _ _ _ (sym (f .before .of-plan .ensures) ∙ f .if1 .left) in
+    let numbers =
+    subst⁻¹ (λ (rows : List (List ℕ)). Numbers rows) (c .before .before .before .numbers .ensures .answer) numbers-right in
     (t .0 .wanted-40, search needs, t .0 .cursor-40, t .0 .asked-40, plan-fits (a .c) _ _ _ (t .1), numbers)
 
 cast-t15 : tie.Need-cast-t15
 cast-t15 c =
     let a = c .before .before .before .before .before .before .before .before .before .before .before .args in
-    omega (arith, c .before .before .put-plan .ensures .0, ap length (one-font (a .c) (a .wanted .now) (a .asked)), plan-most (a .c) (a .wanted .now) (a .asked))
+    let o = one-font (a .c) (a .wanted .now) (a .asked) in
+    omega (arith, c .before .before .put-plan .ensures .0, ap length o, plan-most (a .c) (a .wanted .now) (a .asked))
 
 same-length : tie.Need-same-length
 same-length c = search needs
@@ -48,10 +52,12 @@ returns-2 c =
     let a = c .before .before .before .before .before .before .before .before .before .before .before .args in
     let lc : length (a .c .codes) ≡ 40 = search needs in
     let lf : length (a .c .fonts) ≡ 40 = search needs in
-    let e = sym (c .before .before .before .before .before .before .before .before .of-plan .ensures) ∙ c .before .before .before .before .before .before .before .if1 .left in
+    let f = c .before .before .before .before .before .before .before in
+    let e : planRefusal (a .c) (a .wanted .now) (a .asked) (length (a .out .now)) ≡ 0 =
+    sym (f .before .of-plan .ensures) ∙ f .if1 .left in
     let p = c .before .before .put-plan .ensures in
     let o = one-font (a .c) (a .wanted .now) (a .asked) in
-    taken-on _ _ _ _ _ _ e (plan-delivers _ _ _ _ e lc lf) (rw (← o) (p .0)) (rw (← o) (p .1))
+    taken-on _ _ _ _ _ _ e (plan-delivers (a .c) (a .wanted .now) (a .asked) _ e lc lf) (rw (← o) (p .0)) (rw (← o) (p .1))
 
 pub plan-spec : {M : Type 1} → statement M
 plan-spec =

@@ -5,6 +5,7 @@ use native.Mathlib.Omega.{arith}
 use lib.ListN.{length}
 use Rattle.moves.specs.Moves.{Numbers}
 use Rattle.moves.proofs.Entries.{numbers-right}
+use Rattle.planner.specs.Answer.{fontsRefusal}
 use Rattle.planner.proofs.Demand.{fonts-most}
 use Rattle.planner.proofs.Refusals.{fonts-accepted, fonts-fit, fonts-plan-delivers, refused, taken-on}
 use borrow.Author.Needs.{needs}
@@ -27,15 +28,21 @@ cast-put-plan c =
 
 put-plan-requires : tie.Need-put-plan-requires
 put-plan-requires c κs =
-    let t = fonts-accepted _ _ _ _ _ (sym (c .before .before .before .before .of-fonts .ensures) ∙ c .before .before .before .if1 .left) in
+    let f = c .before .before .before in
+    let t = fonts-accepted _ _ _ _ _ (sym (f .before .of-fonts .ensures) ∙ f .if1 .left) in
+    let u = t .0 .codes in
     let numbers = subst⁻¹ (λ (rows : List (List ℕ)). Numbers rows) (c .before .before .numbers .ensures .answer) numbers-right in
-    (t .0 .codes .wanted-40, t .0 .fonts-40, t .0 .codes .cursor-40, t .0 .codes .asked-40, fonts-fit _ _ _ _ _ (t .0) (t .1), numbers)
+    (u .wanted-40, t .0 .fonts-40, u .cursor-40, u .asked-40, fonts-fit _ _ _ _ _ (t .0) (t .1), numbers)
 
 cast-t13 : tie.Need-cast-t13
 cast-t13 c =
-    let a = c .before .before .before .before .before .before .before .before .before .before .before .args in
-    let t = fonts-accepted _ _ _ _ _ (sym (c .before .before .before .before .before .before .before .of-fonts .ensures) ∙ c .before .before .before .before .before .before .if1 .left) .0 in
-    omega (arith, c .before .before .put-plan .ensures .0, fonts-most (a .c) (a .wanted .now) (a .fonts .now) (a .asked) (t .switchable .wanted-fonts-1) (t .codes .font-1))
+    let f = c .before .before .before .before .before .before in
+    let a = f .before .before .before .before .before .args in
+    let e : fontsRefusal (a .c) (a .wanted .now) (a .fonts .now) (a .asked) (length (a .out .now)) ≡ 0 =
+    sym (f .before .of-fonts .ensures) ∙ f .if1 .left in
+    let t = fonts-accepted (a .c) (a .wanted .now) (a .fonts .now) (a .asked) _ e .0 in
+    let most = fonts-most (a .c) (a .wanted .now) (a .fonts .now) (a .asked) (t .switchable .wanted-fonts-1) (t .codes .font-1) in
+    omega (arith, c .before .before .put-plan .ensures .0, most)
 
 same-length : tie.Need-same-length
 same-length c = search needs
@@ -45,9 +52,11 @@ returns-2 c =
     let a = c .before .before .before .before .before .before .before .before .before .before .before .args in
     let lc : length (a .c .codes) ≡ 40 = search needs in
     let lf : length (a .c .fonts) ≡ 40 = search needs in
-    let e = sym (c .before .before .before .before .before .before .before .of-fonts .ensures) ∙ c .before .before .before .before .before .before .if1 .left in
+    let f = c .before .before .before .before .before .before in
+    let e : fontsRefusal (a .c) (a .wanted .now) (a .fonts .now) (a .asked) (length (a .out .now)) ≡ 0 =
+    sym (f .before .of-fonts .ensures) ∙ f .if1 .left in
     let p = c .before .before .put-plan .ensures in
-    taken-on _ _ _ _ _ _ e (fonts-plan-delivers _ _ _ _ _ e lc lf) (p .0) (p .1)
+    taken-on _ _ _ _ _ _ e (fonts-plan-delivers (a .c) (a .wanted .now) (a .fonts .now) (a .asked) _ e lc lf) (p .0) (p .1)
 
 pub plan-fonts-spec : {M : Type 1} → statement M
 plan-fonts-spec =

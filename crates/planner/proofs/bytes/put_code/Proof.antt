@@ -1,8 +1,3 @@
-use mathlib.Core.Path.{ap, _∙_}
-use mathlib.Core.List.{[], _∷_}
-use native.Mathlib.Omega.{arith}
-use lib.ListN.{length, length-append}
-use lib.Seq.{length-sets}
 use Rattle.planner.specs.Fonts.{switch}
 use Rattle.planner.proofs.Putting.{put-last}
 use borrow.Author.Needs.{needs}
@@ -10,21 +5,13 @@ use Rattle.planner.proofs.bytes.put_code.Statement.{statement}
 use Rattle.planner.proofs.bytes.put_code.Tie as tie
 
 put-switch-requires : tie.Need-put-switch-requires
-put-switch-requires c κs =
-    let a = c .before .before .args in
-    omega (arith, length-append (switch (a .euro) (a .from) (a .to)) (a .code ∷ []))
+put-switch-requires c κs = search needs
 
 slice-write-out : tie.Need-slice-write-out
-slice-write-out c =
-    let a = c .before .before .before .before .before .args in
-    let e = c .before .before .put-switch .ensures in
-    omega (arith, e .0, ap length (e .1) ∙ length-sets (a .out .now) (a .k) (switch (a .euro) (a .from) (a .to)), length-append (switch (a .euro) (a .from) (a .to)) (a .code ∷ []))
+slice-write-out c = search needs
 
 add-result : tie.Need-add-result
-add-result c =
-    let a = c .before .before .before .before .before .args in
-    let e = c .before .before .put-switch .ensures in
-    omega (arith, e .0, ap length (e .1) ∙ length-sets (a .out .now) (a .k) (switch (a .euro) (a .from) (a .to)), length-append (switch (a .euro) (a .from) (a .to)) (a .code ∷ []))
+add-result c = search needs
 
 same-length : tie.Need-same-length
 same-length c = search needs

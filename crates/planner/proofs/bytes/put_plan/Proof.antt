@@ -3,8 +3,9 @@ use mathlib.Core.Logic.{⊎-elim}
 use Prim.Native.Nat.{_-_}
 use borrow.Author.Needs.{needs}
 use Rattle.planner.specs.Fonts.{wrongFor, fontsPlan}
-use Rattle.planner.proofs.Glass.{wrongIn}
-use Rattle.planner.proofs.Putting.{Planning, planIn, plan-start, plan-skip, plan-write, way-room, code-room, end-room, plan-end, end-long}
+use Rattle.planner.proofs.Canvas.{wrongIn}
+use Rattle.planner.proofs.Putting.{Planning, planIn, plan-start, plan-skip, plan-write, plan-end}
+use Rattle.planner.proofs.Putting.{way-room, code-room, end-room, end-long}
 use Rattle.planner.proofs.bytes.put_plan.Statement.{statement}
 use Rattle.planner.proofs.bytes.put_plan.Tie as tie
 
@@ -15,9 +16,30 @@ Inv-loop table wanted fonts asked out₀ codes shown euro p₀ selected₀ k₀ 
 abbrev μ-loop : tie.MeasureT-loop
 μ-loop table wanted fonts asked out₀ codes shown euro p₀ selected₀ k₀ i₀ out p selected k i = 40 - i
 
+-- What is put is the plan ---------------------------------------------------------------------------------------------------------
+
 loop-holds : tie.Need-loop-holds Inv-loop μ-loop
 unfolding fontsPlan wrongFor planIn wrongIn
 loop-holds c = let r = c .before .before .before .before .before .pre in plan-start _ _ _ _ _ _ _ _ _ (r .2) (r .4)
+
+loop-again : tie.Need-loop-again Inv-loop μ-loop
+unfolding wrongIn
+loop-again c =
+    let v = c .before .before .before .before .before .loop .inv in
+    let d = c .before .differs .ensures in
+    ⊎-elim
+    (λ w. plan-write _ _ _ _ _ _ _ _ v _ _ _ _ _ _ (search needs) (sym d ∙ w .0 .taken) (w .2 .ensures)
+    (w .13 ∙ w .6 .ensures .0, w .10 ∙ w .6 .ensures .1) (w .11 ∙ w .9 .ensures) (w .12))
+    (λ w. plan-skip _ _ _ _ _ _ _ _ v _ _ _ _ (search needs) (sym d ∙ w .0 .left) (w .1) (w .2) (w .3) (w .4))
+    (c .if1 .came)
+
+returns : tie.Need-returns Inv-loop μ-loop
+unfolding fontsPlan wrongFor planIn wrongIn
+returns c =
+    let v = c .before .before .before .before .before .loop .inv in
+    plan-end _ _ _ _ _ _ _ _ v _ _ (search needs) (c .before .before .put-way2 .ensures)
+
+-- What the calls ask for ----------------------------------------------------------------------------------------------------------
 
 cast-j : tie.Need-cast-j Inv-loop μ-loop
 cast-j c = search needs
@@ -41,13 +63,17 @@ put-way-requires : tie.Need-put-way-requires Inv-loop μ-loop
 unfolding wrongIn
 put-way-requires c κs =
     let v = c .before .before .before .before .before .before .loop .inv in
-    (v .inside, search needs, way-room _ _ _ _ _ _ _ _ v (search needs) (sym (c .before .before .differs .ensures) ∙ c .before .if1 .taken), c .before .before .before .before .before .before .before .before .before .before .before .before .pre .5)
+    let w = sym (c .before .before .differs .ensures) ∙ c .before .if1 .taken in
+    let given = c .before .before .before .before .before .before .before .before .before .before .before .before .pre in
+    (v .inside, search needs, way-room _ _ _ _ _ _ _ _ v (search needs) w, given .5)
 
 put-code-requires : tie.Need-put-code-requires Inv-loop μ-loop
 unfolding wrongIn
 put-code-requires c κs =
-    let v = c .before .before .before .before .before .before .before .before .before .before .loop .inv in
-    code-room _ _ _ _ _ _ _ _ v _ _ (search needs) (sym (c .before .before .before .before .before .before .differs .ensures) ∙ c .before .before .before .before .before .if1 .taken) (c .before .before .before .put-way .ensures)
+    let f = c .before .before .before .before .before in
+    let v = f .before .before .before .before .before .loop .inv in
+    let w = sym (f .before .differs .ensures) ∙ f .if1 .taken in
+    code-room _ _ _ _ _ _ _ _ v _ _ (search needs) w (c .before .before .before .put-way .ensures)
 
 next-requires : tie.Need-next-requires Inv-loop μ-loop
 next-requires c κs = search needs
@@ -58,27 +84,16 @@ add-i c = search needs
 loop-less : tie.Need-loop-less Inv-loop μ-loop
 loop-less c = search needs
 
-loop-again : tie.Need-loop-again Inv-loop μ-loop
-unfolding wrongIn
-loop-again c =
-    let v = c .before .before .before .before .before .loop .inv in
-    let d = c .before .differs .ensures in
-    ⊎-elim
-    (λ w. plan-write _ _ _ _ _ _ _ _ v _ _ _ _ _ _ (search needs) (sym d ∙ w .0 .taken) (w .2 .ensures) (w .13 ∙ w .6 .ensures .0, w .10 ∙ w .6 .ensures .1) (w .11 ∙ w .9 .ensures) (w .12))
-    (λ w. plan-skip _ _ _ _ _ _ _ _ v _ _ _ _ (search needs) (sym d ∙ w .0 .left) (w .1) (w .2) (w .3) (w .4))
-    (c .if1 .came)
-
 put-way-requires-2 : tie.Need-put-way-requires-2 Inv-loop μ-loop
 put-way-requires-2 c κs =
     let v = c .before .before .loop .inv in
-    (v .inside, search needs, end-room _ _ _ _ _ _ _ _ v (search needs), c .before .before .before .before .before .before .before .before .pre .5)
+    let given = c .before .before .before .before .before .before .before .before .pre in
+    (v .inside, search needs, end-room _ _ _ _ _ _ _ _ v (search needs), given .5)
 
 same-length : tie.Need-same-length Inv-loop μ-loop
-same-length c = end-long _ _ _ _ _ _ _ _ (c .before .before .before .before .before .loop .inv) _ (c .before .before .put-way2 .ensures .1)
-
-returns : tie.Need-returns Inv-loop μ-loop
-unfolding fontsPlan wrongFor planIn wrongIn
-returns c = plan-end _ _ _ _ _ _ _ _ (c .before .before .before .before .before .loop .inv) _ _ (search needs) (c .before .before .put-way2 .ensures)
+same-length c =
+    let v = c .before .before .before .before .before .loop .inv in
+    end-long _ _ _ _ _ _ _ _ v _ (c .before .before .put-way2 .ensures .1)
 
 pub put-plan-spec : {M : Type 1} → statement M
 put-plan-spec =

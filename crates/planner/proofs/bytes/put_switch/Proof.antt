@@ -13,13 +13,18 @@ use Rattle.planner.proofs.bytes.put_switch.Tie as tie
 same : (c : tie.Then1) → switch (c .before .args .euro) (c .before .args .from) (c .before .args .to) ≡ []
 same c = switch-same _ _ _ (c .if1 .taken)
 
-katakana : (c : tie.Then2) → switch (c .before .before .args .euro) (c .before .before .args .from) (c .before .before .args .to) ≡ 0x19 ∷ []
+katakana : (c : tie.Then2)
+    → switch (c .before .before .args .euro) (c .before .before .args .from) (c .before .before .args .to) ≡ 0x19 ∷ []
 katakana c = switch-katakana _ _ _ (c .before .if1 .left) (c .if2 .taken)
 
-marked : (c : tie.Then3) → switch (c .before .before .before .args .euro) (c .before .before .before .args .from) (c .before .before .before .args .to) ≡ 0x18 ∷ 0x1A ∷ []
+marked : (c : tie.Then3)
+    → switch (c .before .before .before .args .euro) (c .before .before .before .args .from) (c .before .before .before .args .to)
+    ≡ 0x18 ∷ 0x1A ∷ []
 marked c = switch-international _ _ _ (c .before .before .if1 .left) (c .before .if2 .left) ∙ rw (c .if3 .taken)
 
-unmarked : (c : tie.Else3) → switch (c .before .before .before .args .euro) (c .before .before .before .args .from) (c .before .before .before .args .to) ≡ 0x18 ∷ []
+unmarked : (c : tie.Else3)
+    → switch (c .before .before .before .args .euro) (c .before .before .before .args .from) (c .before .before .before .args .to)
+    ≡ 0x18 ∷ []
 unmarked c = switch-international _ _ _ (c .before .before .if1 .left) (c .before .if2 .left) ∙ rw (c .if3 .left)
 
 returns : tie.Need-returns
@@ -39,7 +44,8 @@ returns-2 c = (omega (arith, ap length (katakana c)), rw (katakana c))
 
 slice-write-out-2 : tie.Need-slice-write-out-2
 slice-write-out-2 c =
-    omega (arith, ap length (switch-international (c .before .before .args .euro) _ _ (c .before .if1 .left) (c .if2 .left)), back-some (c .before .before .args .euro))
+    let euro = c .before .before .args .euro in
+    omega (arith, ap length (switch-international euro _ _ (c .before .if1 .left) (c .if2 .left)), back-some euro)
 
 add-out : tie.Need-add-out
 add-out c = search needs

@@ -23,7 +23,12 @@ refusal-by-requires c κs = search needs
 
 returns : tie.Need-returns
 unfolding fontsRefusal
-returns c = rw (c .refusal-by .ensures, c .before .up-to .ensures, c .before .before .on-switch .ensures, c .before .before .before .before .on-move .ensures)
+returns c = rw (
+  c .refusal-by .ensures,
+  c .before .up-to .ensures,
+  c .before .before .on-switch .ensures,
+  c .before .before .before .before .on-move .ensures,
+)
 
 pub of-fonts-spec : {M : Type 1} → statement M
 of-fonts-spec =

@@ -23,7 +23,14 @@ is-user-requires-6 c κs = search needs
 
 returns : tie.Need-returns
 unfolding onMove
-returns c = rw (c .is-user6 .ensures, c .before .is-user5 .ensures, c .before .before .is-user4 .ensures, c .before .before .before .is-user3 .ensures, c .before .before .before .before .is-user2 .ensures, c .before .before .before .before .before .is-user .ensures)
+returns c = rw (
+  c .is-user6 .ensures,
+  c .before .is-user5 .ensures,
+  c .before .before .is-user4 .ensures,
+  c .before .before .before .is-user3 .ensures,
+  c .before .before .before .before .is-user2 .ensures,
+  c .before .before .before .before .before .is-user .ensures,
+)
 
 pub on-move-spec : {M : Type 1} → statement M
 on-move-spec =

@@ -20,7 +20,12 @@ lowest-requires c κs = search needs
 
 returns : tie.Need-returns
 unfolding refusalBy
-returns c = rw (c .lowest .ensures, c .before .some-lacks .ensures, c .before .before .before .is-idle .ensures, c .before .before .before .before .well-formed .ensures)
+returns c = rw (
+  c .lowest .ensures,
+  c .before .some-lacks .ensures,
+  c .before .before .before .is-idle .ensures,
+  c .before .before .before .before .well-formed .ensures,
+)
 
 pub refusal-by-spec : {M : Type 1} → statement M
 refusal-by-spec =

@@ -27,7 +27,8 @@ code-lacks-requires c κs = search needs
 
 returns : tie.Need-returns Inv-loop μ-loop
 returns c =
-    sym (c .before .before .before .before .loop .inv .1 ∙ lacks-stop _ _ _ (c .before .before .before .loop-test .taken) (sym (c .before .code-lacks .ensures) ∙ c .if1 .taken))
+    let t = c .before .before .before in
+    sym (t .before .loop .inv .1 ∙ lacks-stop _ _ _ (t .loop-test .taken) (sym (c .before .code-lacks .ensures) ∙ c .if1 .taken))
 
 add-i : tie.Need-add-i Inv-loop μ-loop
 add-i c = omega arith
@@ -36,10 +37,10 @@ loop-less : tie.Need-loop-less Inv-loop μ-loop
 loop-less c = omega arith
 
 loop-again : tie.Need-loop-again Inv-loop μ-loop
-loop-again c = (
-  omega arith,
-  c .before .before .before .before .loop .inv .1 ∙ lacks-turn _ _ _ (c .before .before .before .loop-test .taken) (sym (c .before .code-lacks .ensures) ∙ c .if1 .left),
-)
+loop-again c =
+    let t = c .before .before .before in
+    let e = sym (c .before .code-lacks .ensures) ∙ c .if1 .left in
+    (omega arith, t .before .loop .inv .1 ∙ lacks-turn _ _ _ (t .loop-test .taken) e)
 
 returns-2 : tie.Need-returns-2 Inv-loop μ-loop
 returns-2 c = sym (c .before .loop .inv .1 ∙ lacks-end _ _ _ (c .loop-test .left))

@@ -38,7 +38,8 @@ leads-requires-4 c κs = search needs
 returns-4 : tie.Need-returns-4
 unfolding firstByte
 returns-4 c = simp (
-  sym (c .before .before .before .before .before .before .before .leads .ensures) ∙ c .before .before .before .before .before .before .if1 .left,
+  sym (c .before .before .before .before .before .before .before .leads .ensures)
+      ∙ c .before .before .before .before .before .before .if1 .left,
   sym (c .before .before .before .before .before .leads2 .ensures) ∙ c .before .before .before .before .if2 .left,
   sym (c .before .before .before .leads3 .ensures) ∙ c .before .before .if3 .left,
   sym (c .before .leads4 .ensures) ∙ c .if4 .taken,
@@ -50,8 +51,10 @@ leads-requires-5 c κs = search needs
 returns-5 : tie.Need-returns-5
 unfolding firstByte
 returns-5 c = simp (
-  sym (c .before .before .before .before .before .before .before .before .before .leads .ensures) ∙ c .before .before .before .before .before .before .before .before .if1 .left,
-  sym (c .before .before .before .before .before .before .before .leads2 .ensures) ∙ c .before .before .before .before .before .before .if2 .left,
+  sym (c .before .before .before .before .before .before .before .before .before .leads .ensures)
+      ∙ c .before .before .before .before .before .before .before .before .if1 .left,
+  sym (c .before .before .before .before .before .before .before .leads2 .ensures)
+      ∙ c .before .before .before .before .before .before .if2 .left,
   sym (c .before .before .before .before .before .leads3 .ensures) ∙ c .before .before .before .before .if3 .left,
   sym (c .before .before .before .leads4 .ensures) ∙ c .before .before .if4 .left,
   sym (c .before .leads5 .ensures) ∙ c .if5 .taken,
@@ -60,8 +63,10 @@ returns-5 c = simp (
 returns-6 : tie.Need-returns-6
 unfolding firstByte
 returns-6 c = simp (
-  sym (c .before .before .before .before .before .before .before .before .before .leads .ensures) ∙ c .before .before .before .before .before .before .before .before .if1 .left,
-  sym (c .before .before .before .before .before .before .before .leads2 .ensures) ∙ c .before .before .before .before .before .before .if2 .left,
+  sym (c .before .before .before .before .before .before .before .before .before .leads .ensures)
+      ∙ c .before .before .before .before .before .before .before .before .if1 .left,
+  sym (c .before .before .before .before .before .before .before .leads2 .ensures)
+      ∙ c .before .before .before .before .before .before .if2 .left,
   sym (c .before .before .before .before .before .leads3 .ensures) ∙ c .before .before .before .before .if3 .left,
   sym (c .before .before .before .leads4 .ensures) ∙ c .before .before .if4 .left,
   sym (c .before .leads5 .ensures) ∙ c .if5 .left,

@@ -32,7 +32,8 @@ array-share-prefix-bytes : tie.Need-array-share-prefix-bytes
 array-share-prefix-bytes c =
     let a = c .before .before .before .before .before .args in
     let w = c .before .before .lay-way in
-    omega (arith, w .ensures .0, path-most (a .p) (a .q), ap length (w .ensures .1) ∙ length-sets (0 ∷ 0 ∷ 0 ∷ []) 0 (path (a .p) (a .q)))
+    let l = ap length (w .ensures .1) ∙ length-sets (0 ∷ 0 ∷ 0 ∷ []) 0 (path (a .p) (a .q)) in
+    omega (arith, w .ensures .0, path-most (a .p) (a .q), l)
 
 slice-aggregate-copy : tie.Need-slice-aggregate-copy
 slice-aggregate-copy c =

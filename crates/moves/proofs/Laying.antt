@@ -1,4 +1,4 @@
--- What the loop that puts a way keeps.
+-- What the loop that lays a way keeps.
 use mathlib.Core.Path.{_≡_, sym, ap, _∙_}
 use mathlib.Core.Logic.{⊎-elim}
 use mathlib.Core.Bool.{true, false}
@@ -21,12 +21,13 @@ way-go : (n p b : ℕ) → dist p b ≡ suc n → eqb (firstByte n p b) 0x1B ≡
 unfolding pathOf
 way-go n p b e z = ⊎-elim (λ r. (rw z, r .2)) (λ r. clash (r .0) z) (first-byte n p b e)
 
-way-jump : (n p b : ℕ) → dist p b ≡ suc n → eqb (firstByte n p b) 0x1B ≡ true → (pathOf (suc n) p b ≡ 0x1B ∷ 0x48 ∷ b ∷ []) × (n ≡ 2)
+way-jump : (n p b : ℕ) → dist p b ≡ suc n → eqb (firstByte n p b) 0x1B ≡ true
+    → (pathOf (suc n) p b ≡ 0x1B ∷ 0x48 ∷ b ∷ []) × (n ≡ 2)
 unfolding pathOf
 way-jump n p b e z = ⊎-elim (λ r. clash z (r .0)) (λ r. (rw z, r .1)) (first-byte n p b e)
 
--- n bytes are left from p to b, and the bytes put so far are those before them
-pub record Putting (a b : ℕ) (out₀ out : List ℕ) (n p at : ℕ) : Type 0 where
+-- n bytes are left from p to b, and the bytes laid so far are those before them
+pub record Laying (a b : ℕ) (out₀ out : List ℕ) (n p at : ℕ) : Type 0 where
   pub away : dist p b ≡ n
   pub inside : p < 40
   pub count : at + n ≡ length (path a b)
@@ -34,9 +35,9 @@ pub record Putting (a b : ℕ) (out₀ out : List ℕ) (n p at : ℕ) : Type 0 w
   pub long : length out ≡ 3
   pub few : at + n ≤ 3
 
-pub put-start : (a b : ℕ) (out : List ℕ) (n : ℕ) → a < 40 → length out ≡ 3 → n ≡ dist a b → Putting a b out out n a 0
+pub lay-start : (a b : ℕ) (out : List ℕ) (n : ℕ) → a < 40 → length out ≡ 3 → n ≡ dist a b → Laying a b out out n a 0
 unfolding path
-put-start a b out n h l e =
+lay-start a b out n h l e =
     record {
       away = sym e;
       inside = h;
@@ -46,27 +47,32 @@ put-start a b out n h l e =
       few = omega (arith, dist-most a b);
     }
 
-module _ {a b : ℕ} {out₀ out : List ℕ} {n p at : ℕ} (c : Putting a b out₀ out n p at) where
+module _ {a b : ℕ} {out₀ out : List ℕ} {n p at : ℕ} (c : Laying a b out₀ out n p at) where
+  -- the bytes to come are xs
+  to-come : (r : ℕ) (xs : List ℕ) → n ≡ suc r → pathOf (suc r) p b ≡ xs → sets out₀ 0 (path a b) ≡ sets out at xs
+  to-come r xs d e = c .same ∙ ap (λ (l : List ℕ). sets out at l) (ap (λ (m : ℕ). pathOf m p b) d ∙ e)
+
   -- a turn at n ≡ suc r: a move byte
-  pub put-turn : (m q r : ℕ) → n ≡ suc r → m ≡ firstByte r p b → (m ≡ 0x1B → ⊥) → q ≡ move m p → Putting a b out₀ (set out at m) r q (at + 1)
-  put-turn m q r d e z g =
+  pub lay-turn : (m q r : ℕ) → n ≡ suc r → m ≡ firstByte r p b → (m ≡ 0x1B → ⊥) → q ≡ move m p
+      → Laying a b out₀ (set out at m) r q (at + 1)
+  lay-turn m q r d e z g =
       let w = way-go r p b (c .away ∙ d) (ne-eqb _ _ (λ (x : firstByte r p b ≡ 0x1B). z (e ∙ x))) in
       record {
         away = rw (g, e) (w .1);
         inside = rw g (move-below m p (c .inside));
         count = omega (arith, c .count);
-        same = c .same ∙ ap (λ (l : ℕ). sets out at (pathOf l p b)) d ∙ ap (λ (l : List ℕ). sets out at l) (w .0) ∙ rw (add-one at, g, e);
+        same = to-come r _ d (w .0) ∙ rw (add-one at, g, e);
         long = length-set out at m ∙ c .long;
         few = omega (arith, c .few);
       }
 
   -- or 1Bh 48h b, which ends the way
-  pub put-jump : (m r : ℕ) → n ≡ suc r → m ≡ firstByte r p b → m ≡ 0x1B
+  pub lay-jump : (m r : ℕ) → n ≡ suc r → m ≡ firstByte r p b → m ≡ 0x1B
       → (n ≡ 3) × (set (set (set out at m) (at + 1) 0x48) (at + 2) b ≡ sets out₀ 0 (path a b))
-  put-jump m r d e z =
+  lay-jump m r d e z =
       let w = way-jump r p b (c .away ∙ d) (eq-eqb _ _ (sym e ∙ z)) in
-      (omega (arith, w .1), sym (c .same ∙ ap (λ (l : ℕ). sets out at (pathOf l p b)) d ∙ ap (λ (l : List ℕ). sets out at l) (w .0) ∙ rw (add-one at, add-two at, z)))
+      (omega (arith, w .1), sym (to-come r _ d (w .0) ∙ rw (add-one at, add-two at, z)))
 
-  pub put-end : n ≡ 0 → (at ≡ length (path a b)) × (out ≡ sets out₀ 0 (path a b))
+  pub lay-end : n ≡ 0 → (at ≡ length (path a b)) × (out ≡ sets out₀ 0 (path a b))
   unfolding pathOf
-  put-end z = (omega (arith, c .count), sym (c .same ∙ ap (λ (m : ℕ). sets out at (pathOf m p b)) z))
+  lay-end z = (omega (arith, c .count), sym (c .same ∙ ap (λ (m : ℕ). sets out at (pathOf m p b)) z))

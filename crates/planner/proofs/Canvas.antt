@@ -11,20 +11,21 @@ use lib.ListN.{getD, set}
 use borrow.Author.Tests.{eqb-true, leb-true}
 use Rattle.laws.proofs.Tests.{bool, both}
 use Rattle.moves.specs.Moves.{any, moves, move, next}
+use Rattle.planner.specs.Fonts.{wrongCell}
 
 -- how much of 1Bh 48h p or of 18h 1Ah has come
 pub data Part : Type 0 where
   none escape place back : Part
 
-pub record Glass : Type 0 where
+pub record Canvas : Type 0 where
   pub part : Part
   pub cursor : ℕ
   pub font : ℕ
   pub codes : List ℕ
   pub fonts : List ℕ
 
-abbrev pub glass : Part → ℕ → ℕ → List ℕ → List ℕ → Glass
-glass k p f cs fs = record { part = k; cursor = p; font = f; codes = cs; fonts = fs }
+abbrev pub canvas : Part → ℕ → ℕ → List ℕ → List ℕ → Canvas
+canvas k p f cs fs = record { part = k; cursor = p; font = f; codes = cs; fonts = fs }
 
 unfoldable pub whole : Part → Bool
 whole none = true
@@ -34,25 +35,25 @@ whole back = false
 
 -- a cell is wrong when its code or its font differs from the wanted one
 unfoldable pub wrongIn : (ℕ → ℕ) → List ℕ → List ℕ → List ℕ → ℕ → Bool
-wrongIn font wanted codes fonts i = not (eqb (getD codes i 0) (getD wanted i 0) && eqb (getD fonts i 0) (font i))
+wrongIn font wanted codes fonts i = wrongCell (getD codes i 0) (getD fonts i 0) (getD wanted i 0) (font i)
 
 module _ (switching mark : Bool) (chars : ℕ → Bool) where
   -- one byte of a string of steps
-  unfoldable pub stepAt : Part → ℕ → ℕ → List ℕ → List ℕ → ℕ → Glass
+  unfoldable pub stepAt : Part → ℕ → ℕ → List ℕ → List ℕ → ℕ → Canvas
   stepAt none p f cs fs b =
-      cond (chars b) (glass none (next p) f (set cs p b) (set fs p f))
-      (cond (eqb b 0x1B) (glass escape p f cs fs)
-      (cond (any (eqb b) moves) (glass none (move b p) f cs fs)
-      (cond (eqb b 0x19) (glass none p 1 cs fs)
-      (cond mark (glass back p f cs fs) (glass none p 0 cs fs)))))
-  stepAt escape p f cs fs b = glass place p f cs fs
-  stepAt place p f cs fs b = glass none b f cs fs
-  stepAt back p f cs fs b = glass none p 0 cs fs
+      cond (chars b) (canvas none (next p) f (set cs p b) (set fs p f))
+      (cond (eqb b 0x1B) (canvas escape p f cs fs)
+      (cond (any (eqb b) moves) (canvas none (move b p) f cs fs)
+      (cond (eqb b 0x19) (canvas none p 1 cs fs)
+      (cond mark (canvas back p f cs fs) (canvas none p 0 cs fs)))))
+  stepAt escape p f cs fs b = canvas place p f cs fs
+  stepAt place p f cs fs b = canvas none b f cs fs
+  stepAt back p f cs fs b = canvas none p 0 cs fs
 
-  abbrev pub step : Glass → ℕ → Glass
+  abbrev pub step : Canvas → ℕ → Canvas
   step g b = stepAt (g .part) (g .cursor) (g .font) (g .codes) (g .fonts) b
 
-  abbrev pub run : Glass → List ℕ → Glass
+  abbrev pub run : Canvas → List ℕ → Canvas
   run g [] = g
   run g (b ∷ bs) = run (step g b) bs
 
@@ -74,19 +75,19 @@ module _ (switching mark : Bool) (chars : ℕ → Bool) where
   lowAt back p lo b = lo
 
   -- a reading-order string
-  abbrev pub ordered : Glass → ℕ → List ℕ → Bool
+  abbrev pub ordered : Canvas → ℕ → List ℕ → Bool
   ordered g lo [] = whole (g .part)
   ordered g lo (b ∷ bs) = allowed (g .part) (g .cursor) lo b && ordered (step g b) (lowAt (g .part) (g .cursor) lo b) bs
 
-  -- what the byte b, which may come next, does where nothing is half received, by its kind: a character write, 1Bh, a one-byte move,
-  -- 19h, 18h with 1Ah to follow, 18h alone
-  pub by-kind : (P : Glass → ℕ → Type 0) (p lo f : ℕ) (cs fs : List ℕ) (b : ℕ) → allowed none p lo b ≡ true
-      → (chars b ≡ true → lo ≤ p → P (glass none (next p) f (set cs p b) (set fs p f)) (suc p))
-      → (chars b ≡ false → b ≡ 0x1B → P (glass escape p f cs fs) lo)
-      → (chars b ≡ false → any (eqb b) moves ≡ true → P (glass none (move b p) f cs fs) lo)
-      → (chars b ≡ false → switching ≡ true → b ≡ 0x19 → P (glass none p 1 cs fs) lo)
-      → (chars b ≡ false → switching ≡ true → b ≡ 0x18 → mark ≡ true → P (glass back p f cs fs) lo)
-      → (chars b ≡ false → switching ≡ true → b ≡ 0x18 → mark ≡ false → P (glass none p 0 cs fs) lo)
+  -- what the byte b, which may come next, does where nothing is half received, by its kind: a character write, 1Bh, a one-byte
+  -- move, 19h, 18h with 1Ah to follow, 18h alone
+  pub by-kind : (P : Canvas → ℕ → Type 0) (p lo f : ℕ) (cs fs : List ℕ) (b : ℕ) → allowed none p lo b ≡ true
+      → (chars b ≡ true → lo ≤ p → P (canvas none (next p) f (set cs p b) (set fs p f)) (suc p))
+      → (chars b ≡ false → b ≡ 0x1B → P (canvas escape p f cs fs) lo)
+      → (chars b ≡ false → any (eqb b) moves ≡ true → P (canvas none (move b p) f cs fs) lo)
+      → (chars b ≡ false → switching ≡ true → b ≡ 0x19 → P (canvas none p 1 cs fs) lo)
+      → (chars b ≡ false → switching ≡ true → b ≡ 0x18 → mark ≡ true → P (canvas back p f cs fs) lo)
+      → (chars b ≡ false → switching ≡ true → b ≡ 0x18 → mark ≡ false → P (canvas none p 0 cs fs) lo)
       → P (stepAt none p f cs fs b) (lowAt none p lo b)
   unfolding stepAt allowed lowAt
   by-kind P p lo f cs fs b a write esc move on off1 off0 =
