@@ -29,7 +29,8 @@ flagged-no w n i e = rw e
 pub flagged-same : (w v : ℕ → Bool) (n i : ℕ) → ((j : ℕ) → i ≤ j → j < i + n → w j ≡ v j) → flagged w n i ≡ flagged v n i
 unfolding flagged
 flagged-same w v zero i h = refl
-flagged-same w v (suc n) i h = rw (h i (le-refl i) (omega arith), flagged-same w v n (suc i) (λ j l k. h j (omega arith) (omega arith)))
+flagged-same w v (suc n) i h =
+    rw (h i (le-refl i) (omega arith), flagged-same w v n (suc i) (λ j l k. h j (omega arith) (omega arith)))
 
 pub flagged-none : (w : ℕ → Bool) (n i : ℕ) → ((j : ℕ) → j < i + n → w j ≡ false) → flagged w n i ≡ []
 unfolding flagged
@@ -40,7 +41,8 @@ pub flagged-length : (w : ℕ → Bool) (n i : ℕ) → length (flagged w n i) �
 unfolding flagged
 flagged-length w zero i = omega arith
 flagged-length w (suc n) i =
-    ⊎-elim (λ e. rw (flagged-yes w n i e) (omega (arith, flagged-length w n (suc i)))) (λ e. rw (flagged-no w n i e) (omega (arith, flagged-length w n (suc i)))) (bool (w i))
+    let l = flagged-length w n (suc i) in
+    ⊎-elim (λ e. rw (flagged-yes w n i e) (omega (arith, l))) (λ e. rw (flagged-no w n i e) (omega (arith, l))) (bool (w i))
 
 -- p is the first flagged place of w, and v is w with p taken away
 pub flagged-cons : (w v : ℕ → Bool) (n i p : ℕ) → i ≤ p → p < i + n → ((j : ℕ) → j < p → w j ≡ false) → w p ≡ true → v p ≡ false
@@ -51,7 +53,8 @@ flagged-cons w v (suc n) i p h l nw wp vp o =
     ⊎-elim (λ e. let q = eqb-true i p e in
     rw (q, wp, vp) (ap {B = List ℕ} (λ r. p ∷ r) (flagged-same w v n (suc p) (λ j k l. sym (o j (omega arith))))))
     (λ e. let q = eqb-false i p e in
-    rw (nw i (omega (arith, q)), o i q ∙ nw i (omega (arith, q))) (flagged-cons w v n (suc i) p (omega (arith, q)) (omega arith) nw wp vp o))
+    let z = nw i (omega (arith, q)) in
+    rw (z, o i q ∙ z) (flagged-cons w v n (suc i) p (omega (arith, q)) (omega arith) nw wp vp o))
     (bool (eqb i p))
 
 -- Costs ------------------------------------------------------------------------------------------------------------------------
@@ -67,7 +70,8 @@ moveCost q p xs = total dist (λ s. dist s q) next p xs
 
 module _ {S : Type 0} (D : S → ℕ → ℕ) (E : S → ℕ) (after : ℕ → S) where
   -- a state from which every place is at most k further away
-  pub shift : (k : ℕ) (s t : S) → ((x : ℕ) → D s x ≤ k + D t x) → E s ≤ k + E t → (xs : List ℕ) → total D E after s xs ≤ k + total D E after t xs
+  pub shift : (k : ℕ) (s t : S) → ((x : ℕ) → D s x ≤ k + D t x) → E s ≤ k + E t
+      → (xs : List ℕ) → total D E after s xs ≤ k + total D E after t xs
   unfolding total
   shift k s t h e [] = e
   shift k s t h e (x ∷ xs) = omega (arith, h x)
@@ -79,11 +83,16 @@ module _ {S : Type 0} (D : S → ℕ → ℕ) (E : S → ℕ) (after : ℕ → S
       → total D E after s (flagged w 40 0) ≤ k + 1 + total D E after t (flagged v 40 0)
   unfolding total
   put-total k p s t w v hp near at far end r o =
+      let first : (j : ℕ) → j < p → w j ≡ false = λ j l. sym (o j (omega arith)) ∙ r j (omega arith) in
+      let here : v p ≡ false = r p (omega arith) in
       ⊎-elim
-      (λ (e : w p ≡ true). rw (flagged-cons w v 40 0 p (omega arith) (omega arith) (λ j l. sym (o j (omega arith)) ∙ r j (omega arith)) e (r p (omega arith)) o, at) (omega arith))
-      (λ (e : w p ≡ false). rw (flagged-same w v 40 0 (λ j l k. ⊎-elim (λ (z : eqb j p ≡ true). ap w (eqb-true j p z) ∙ e ∙ sym (r p (omega arith)) ∙ ap v (sym (eqb-true j p z)))
-      (λ (z : eqb j p ≡ false). sym (o j (eqb-false j p z))) (bool (eqb j p))))
-      (shift (k + 1) s t far end (flagged v 40 0)))
+      (λ (e : w p ≡ true). rw (flagged-cons w v 40 0 p (omega arith) (omega arith) first e here o, at) (omega arith))
+      (λ (e : w p ≡ false).
+      let alike : (j : ℕ) → w j ≡ v j = λ j.
+      ⊎-elim (λ (z : eqb j p ≡ true). let y = eqb-true j p z in ap w y ∙ e ∙ sym here ∙ ap v (sym y))
+      (λ (z : eqb j p ≡ false). sym (o j (eqb-false j p z)))
+      (bool (eqb j p)) in
+      rw (flagged-same w v 40 0 (λ j l k. alike j)) (shift (k + 1) s t far end (flagged v 40 0)))
       (bool (w p))
 
 pub move-home : (q p : ℕ) (xs : List ℕ) → moveCost q p xs ≤ 1 + moveCost q 0 xs
@@ -114,11 +123,14 @@ pub move-bound : (q : ℕ) (w : ℕ → Bool) (n i p : ℕ) → i + n ≡ 40 →
 unfolding flagged total
 move-bound q w zero i p e l = omega (arith, dist-most p q)
 move-bound q w (suc n) i p e l =
-    ⊎-elim (λ z. rw (flagged-yes w n i z) (omega (arith, dist-along p i l (omega arith), last q w n i (omega arith) (move-bound q w n (suc i) (suc i) (omega arith) (omega arith)))))
-    (λ z. rw (flagged-no w n i z) (move-bound q w n (suc i) p (omega arith) (omega arith)))
+    ⊎-elim
+    (λ (z : w i ≡ true). let b = move-bound q w n (suc i) (suc i) (omega arith) (omega arith) in
+    rw (flagged-yes w n i z) (omega (arith, dist-along p i l (omega arith), last q w n i (omega arith) b)))
+    (λ (z : w i ≡ false). rw (flagged-no w n i z) (move-bound q w n (suc i) p (omega arith) (omega arith)))
     (bool (w i))
   where
-    last : (q : ℕ) (w : ℕ → Bool) (n i : ℕ) → i + n ≡ 39 → moveCost q (suc i) (flagged w n (suc i)) + suc i ≤ 43 → moveCost q (next i) (flagged w n (suc i)) + i ≤ 42
+    last : (q : ℕ) (w : ℕ → Bool) (n i : ℕ) → i + n ≡ 39 → moveCost q (suc i) (flagged w n (suc i)) + suc i ≤ 43
+        → moveCost q (next i) (flagged w n (suc i)) + i ≤ 42
     last q w zero i e h = omega (arith, dist-most (next i) q)
     last q w (suc n) i e h = rw (next-up i (omega arith), add-one i) (omega arith)
 
@@ -194,7 +206,8 @@ switch-most e f (suc h) l m = rw (one h m) (omega (arith, switch-on e f 1, ap le
 module _ (euro : Bool) (font : ℕ → ℕ) where
   -- the cost from a place and a selected font
   abbrev pub cost : ℕ → ℕ × ℕ → List ℕ → ℕ
-  cost q s xs = total (λ s x. dist (s .0) x + length (switch euro (s .1) (font x))) (λ s. dist (s .0) q) (λ x. (next x, font x)) s xs
+  cost q s xs =
+      total (λ s x. dist (s .0) x + length (switch euro (s .1) (font x))) (λ s. dist (s .0) q) (λ x. (next x, font x)) s xs
 
   pub cost-step : (k q p r f : ℕ) (xs : List ℕ) → ((x : ℕ) → dist p x ≤ k + dist r x) → cost q (p, f) xs ≤ k + cost q (r, f) xs
   cost-step k q p r f xs h = shift _ _ _ k (p, f) (r, f) (λ x. omega (arith, h x)) (h q) xs
@@ -226,7 +239,9 @@ module _ (euro : Bool) (font : ℕ → ℕ) where
   unfolding fontsPlanOf total
   length-plan ws q p f [] = length-path p q
   length-plan ws q p f (x ∷ xs) =
-      rw (length-append, length-path p x) (omega (arith, length-append (switch euro f (font x)) (getD ws x 0 ∷ fontsPlanOf euro ws font q (next x) (font x) xs), length-plan ws q (next x) (font x) xs))
+      let on = getD ws x 0 ∷ fontsPlanOf euro ws font q (next x) (font x) xs in
+      rw (length-append, length-path p x)
+      (omega (arith, length-append (switch euro f (font x)) on, length-plan ws q (next x) (font x) xs))
 
 -- one font alone: no switch
 pub cost-plain : (euro : Bool) (f q : ℕ) (w : ℕ → Bool) (p : ℕ) → cost euro (λ x. f) q (p, f) (flagged w 40 0) ≤ 44

@@ -19,20 +19,25 @@ use Rattle.planner.proofs.Costs.{flagged-yes, flagged-no}
 
 pub sets-append : (l : List ℕ) (i : ℕ) (xs ys : List ℕ) → sets l i (xs ++ ys) ≡ sets (sets l i xs) (i + length xs) ys
 sets-append l i [] ys = ap (λ (k : ℕ). sets l k ys) (sym (add-zero i))
-sets-append l i (x ∷ xs) ys = sets-append (set l i x) (suc i) xs ys ∙ ap (λ (k : ℕ). sets (sets (set l i x) (suc i) xs) k ys) (omega arith)
+sets-append l i (x ∷ xs) ys =
+    sets-append (set l i x) (suc i) xs ys ∙ ap (λ (k : ℕ). sets (sets (set l i x) (suc i) xs) k ys) (omega arith)
 
 -- bytes copied to the place k of a buffer that has room for them
-pub put-part : (out part : List ℕ) (k : ℕ) (bs : List ℕ) → k + length bs ≤ length out → part ≡ laid bs (take (length out - k) (drop k out))
+pub put-part : (out part : List ℕ) (k : ℕ) (bs : List ℕ) → k + length bs ≤ length out
+    → part ≡ laid bs (take (length out - k) (drop k out))
     → take k out ++ (part ++ drop (length out - k) (drop k out)) ≡ sets out k bs
 unfolding laid
 put-part out part k bs h e =
     let d : length (drop k out) ≡ length out - k = length-drop k out in
     let t : take (length out - k) (drop k out) ≡ drop k out = take-all (length out - k) (drop k out) (omega arith) in
-    rw (e, t, take-all (length (drop k out)) bs (omega arith), drop-of-length-le (drop k out) {i = length out - k} (omega arith), append-nil, drop-drop (length bs) k out)
+    let all : take (length (drop k out)) bs ≡ bs = take-all (length (drop k out)) bs (omega arith) in
+    let none : drop (length out - k) (drop k out) ≡ [] = drop-of-length-le (drop k out) {i = length out - k} (omega arith) in
+    rw (e, t, all, none, append-nil, drop-drop (length bs) k out)
     (sym (sets-eq bs out k h ∙ append-assoc (take k out) bs _))
 
 -- the way between two places stands at the start of three bytes
-pub way-in : (p q n : ℕ) (bytes : List ℕ) → n ≡ length (path p q) → bytes ≡ sets (0 ∷ 0 ∷ 0 ∷ []) 0 (path p q) → take n bytes ≡ path p q
+pub way-in : (p q n : ℕ) (bytes : List ℕ) → n ≡ length (path p q) → bytes ≡ sets (0 ∷ 0 ∷ 0 ∷ []) 0 (path p q)
+    → take n bytes ≡ path p q
 way-in p q n bytes en eb =
     rw (en, eb, sets-eq (path p q) (0 ∷ 0 ∷ 0 ∷ []) 0 (omega (arith, path-most p q))) (take-append-seam (path p q) _)
 
@@ -41,12 +46,14 @@ pub put-way-law : (out part bytes : List ℕ) (k p q n : ℕ) → n ≡ length (
     → k + length (path p q) ≤ length out → part ≡ laid (take n bytes) (take (length out - k) (drop k out))
     → (k + n ≡ k + length (path p q)) × (take k out ++ (part ++ drop (length out - k) (drop k out)) ≡ sets out k (path p q))
 put-way-law out part bytes k p q n en eb h e =
-    (ap (λ (m : ℕ). k + m) en, put-part out part k (path p q) h (e ∙ ap (λ (bs : List ℕ). laid bs (take (length out - k) (drop k out))) (way-in p q n bytes en eb)))
+    let way = ap (λ (bs : List ℕ). laid bs (take (length out - k) (drop k out))) (way-in p q n bytes en eb) in
+    (ap (λ (m : ℕ). k + m) en, put-part out part k (path p q) h (e ∙ way))
 
 -- one byte more behind what was put
 pub put-last : (out out′ : List ℕ) (k at w : ℕ) (xs : List ℕ) → (at ≡ k + length xs) × (out′ ≡ sets out k xs)
     → (at + 1 ≡ k + length (xs ++ w ∷ [])) × (set out′ at w ≡ sets out k (xs ++ w ∷ []))
-put-last out out′ k at w xs d = (omega (arith, d .0, length-append xs (w ∷ [])), rw (d .0, d .1) (sym (sets-append out k xs (w ∷ []))))
+put-last out out′ k at w xs d =
+    (omega (arith, d .0, length-append xs (w ∷ [])), rw (d .0, d .1) (sym (sets-append out k xs (w ∷ []))))
 
 -- bytes put at the start
 pub put-front : (out xs : List ℕ) → length xs ≤ length out → sets out 0 xs ≡ atStart xs out
@@ -59,11 +66,13 @@ left-suc i h = omega arith
 
 rest-no : (w : ℕ → Bool) (i : ℕ) → i < 40 → w i ≡ false → flagged w (40 - i) i ≡ flagged w (40 - (i + 1)) (i + 1)
 rest-no w i h e =
-    ap (λ (n : ℕ). flagged w n i) (left-suc i h) ∙ flagged-no w (40 - (i + 1)) i e ∙ ap (λ (n : ℕ). flagged w (40 - (i + 1)) n) (sym (add-one i))
+    ap (λ (n : ℕ). flagged w n i) (left-suc i h) ∙ flagged-no w (40 - (i + 1)) i e
+    ∙ ap (λ (n : ℕ). flagged w (40 - (i + 1)) n) (sym (add-one i))
 
 rest-yes : (w : ℕ → Bool) (i : ℕ) → i < 40 → w i ≡ true → flagged w (40 - i) i ≡ i ∷ flagged w (40 - (i + 1)) (i + 1)
 rest-yes w i h e =
-    ap (λ (n : ℕ). flagged w n i) (left-suc i h) ∙ flagged-yes w (40 - (i + 1)) i e ∙ ap (λ (n : ℕ). i ∷ flagged w (40 - (i + 1)) n) (sym (add-one i))
+    ap (λ (n : ℕ). flagged w n i) (left-suc i h) ∙ flagged-yes w (40 - (i + 1)) i e
+    ∙ ap (λ (n : ℕ). i ∷ flagged w (40 - (i + 1)) n) (sym (add-one i))
 
 -- from the condition's parts: the Euro mark, the cells, the cursor and the selected font
 module _ (e : Bool) (ws gs cs fs : List ℕ) (q p₀ f₀ : ℕ) where
@@ -80,6 +89,10 @@ module _ (e : Bool) (ws gs cs fs : List ℕ) (q p₀ f₀ : ℕ) where
   -- the bytes at a wrong cell behind its way
   abbrev pub written : ℕ → ℕ → List ℕ
   written f i = switch e f (getD gs i 0) ++ getD ws i 0 ∷ []
+
+  -- and what is left behind it
+  abbrev behind : ℕ → List ℕ
+  behind i = rest (next i) (getD gs i 0) (i + 1)
 
   pub record Planning (out₀ out : List ℕ) (p f k i : ℕ) : Type 0 where
     pub upto : i ≤ 40
@@ -99,18 +112,27 @@ module _ (e : Bool) (ws gs cs fs : List ℕ) (q p₀ f₀ : ℕ) where
     unfolding rest
     plan-skip out′ p′ f′ k′ h b eo ep ef ek =
         let r = ap (λ (l : List ℕ). fontsPlanOf e ws (λ j. getD gs j 0) q p f l) (rest-no bad i h b) in
-        rw (eo, ep, ef, ek) (record { upto = omega arith; inside = v .inside; count = rw (← r) (v .count); same = rw (← r) (v .same); long = v .long; room = v .room })
+        rw (eo, ep, ef, ek)
+        (record {
+          upto = omega arith;
+          inside = v .inside;
+          count = rw (← r) (v .count);
+          same = rw (← r) (v .same);
+          long = v .long;
+          room = v .room;
+        })
 
     -- the bytes at a wrong cell, and the rest
-    rest-write : i < 40 → bad i ≡ true → rest p f i ≡ path p i ++ (written f i ++ rest (next i) (getD gs i 0) (i + 1))
+    rest-write : i < 40 → bad i ≡ true → rest p f i ≡ path p i ++ (written f i ++ behind i)
     unfolding rest fontsPlanOf
     rest-write h b =
         ap (λ (l : List ℕ). fontsPlanOf e ws (λ j. getD gs j 0) q p f l) (rest-yes bad i h b)
         ∙ ap (λ (l : List ℕ). path p i ++ l) (sym (append-assoc (switch e f (getD gs i 0)) (getD ws i 0 ∷ []) _))
 
-    rest-length : i < 40 → bad i ≡ true → length (rest p f i) ≡ length (path p i) + (length (written f i) + length (rest (next i) (getD gs i 0) (i + 1)))
+    rest-length : i < 40 → bad i ≡ true → length (rest p f i) ≡ length (path p i) + (length (written f i) + length (behind i))
     rest-length h b =
-        ap length (rest-write h b) ∙ length-append (path p i) _ ∙ ap (λ (n : ℕ). length (path p i) + n) (length-append (written f i) (rest (next i) (getD gs i 0) (i + 1)))
+        ap length (rest-write h b) ∙ length-append (path p i) _
+        ∙ ap (λ (n : ℕ). length (path p i) + n) (length-append (written f i) (behind i))
 
     -- room for the way to a wrong cell, and for what is written there
     pub way-room : i < 40 → bad i ≡ true → k + length (path p i) ≤ length out
@@ -129,15 +151,14 @@ module _ (e : Bool) (ws gs cs fs : List ℕ) (q p₀ f₀ : ℕ) where
         → Planning out₀ out′ p′ f′ k′ (i + 1)
     plan-write mid out′ at p′ f′ k′ h x d b ep ef =
         let r = rest-write h x in
-        let t = rest (next i) (getD gs i 0) (i + 1) in
         rw (ep, ef)
         (record {
           upto = omega arith;
           inside = next-below i h;
           count = omega (arith, v .count, rest-length h x, d .0, b .0);
           same =
-              v .same ∙ ap (λ (l : List ℕ). sets out k l) r ∙ sets-append out k (path p i) (written f i ++ t)
-              ∙ sets-append (sets out k (path p i)) (k + length (path p i)) (written f i) t
+              v .same ∙ ap (λ (l : List ℕ). sets out k l) r ∙ sets-append out k (path p i) (written f i ++ behind i)
+              ∙ sets-append (sets out k (path p i)) (k + length (path p i)) (written f i) (behind i)
               ∙ rw (b .0, b .1, d .0, d .1);
           long = ap length (b .1) ∙ length-sets mid at (written f i) ∙ ap length (d .1) ∙ length-sets out k (path p i) ∙ v .long;
           room = v .room;

@@ -1,7 +1,7 @@
 -- What a refusal number says: 0 that the condition can be planned from, any other that nothing changes.
 use mathlib.Core.Path.{_≡_, refl, sym, ap, _∙_}
 use mathlib.Core.Logic.{⊎-elim}
-use mathlib.Core.Bool.{Bool, true, false, cond, not, _&&_, _||_}
+use mathlib.Core.Bool.{Bool, true, false, not, _&&_, _||_}
 use mathlib.Core.List.{List, [], _∷_}
 use Prim.Native.Nat.{ℕ, zero, suc, _≤_, _<_}
 use native.Mathlib.Omega.{arith}
@@ -37,7 +37,8 @@ record Clear (long ranged blocked short : Bool) (c : Condition) (wanted : List �
   codes-shown : someLacks (c .users) wanted ≡ false
   room : short ≡ false
 
-clear : (long ranged blocked short : Bool) (c : Condition) (wanted : List ℕ) → refusalBy long ranged blocked short c wanted ≡ 0 → Clear long ranged blocked short c wanted
+clear : (long ranged blocked short : Bool) (c : Condition) (wanted : List ℕ) → refusalBy long ranged blocked short c wanted ≡ 0
+    → Clear long ranged blocked short c wanted
 unfolding refusalBy
 clear long ranged blocked short c wanted e =
     let p1 = passed (not long) _ _ e in
@@ -97,7 +98,10 @@ shows : (c : Condition) (w : ℕ) → lacks (c .users) w ≡ false → isChar c 
 unfolding lacks isChar
 shows c w e =
     ⊎-elim (λ (h : isUser (c .users) w ≡ true). rw h)
-    (λ (h : isUser (c .users) w ≡ false). rw (h, le-leb 0x20 w (⊎-elim (λ (l : ltb w 0x20 ≡ true). clash refl (rw (l, h) at e)) (λ (l : ltb w 0x20 ≡ false). ltb-false w 0x20 l) (bool (ltb w 0x20)))))
+    (λ (h : isUser (c .users) w ≡ false).
+    ⊎-elim (λ (l : ltb w 0x20 ≡ true). clash refl (rw (l, h) at e))
+    (λ (l : ltb w 0x20 ≡ false). rw (h, le-leb 0x20 w (ltb-false w 0x20 l)))
+    (bool (ltb w 0x20)))
     (bool (isUser (c .users) w))
 
 all-show : (c : Condition) (ws : List ℕ) → someLacks (c .users) ws ≡ false → (i : ℕ) → i < length ws → isChar c (getD ws i 0) ≡ true
@@ -114,8 +118,9 @@ pub record Accepted (c : Condition) (wanted : List ℕ) (asked : ℕ) : Type 0 w
   pub wanted-40 : length wanted ≡ 40
   pub asked-40 : asked < 40
 
-accepted-by : (long ranged blocked short : Bool) (c : Condition) (wanted : List ℕ) (asked : ℕ) → Clear long ranged blocked short c wanted
-    → length wanted ≡ 40 → leb asked 39 ≡ true → onMove (c .users) ≡ false → Accepted c wanted asked
+accepted-by : (long ranged blocked short : Bool) (c : Condition) (wanted : List ℕ) (asked : ℕ)
+    → Clear long ranged blocked short c wanted → length wanted ≡ 40 → leb asked 39 ≡ true → onMove (c .users) ≡ false
+    → Accepted c wanted asked
 accepted-by long ranged blocked short c wanted asked k l a u =
     let q : asked ≤ 39 = leb-true asked 39 a in
     let r = ready c (k .formed) (k .mode-1) (k .nothing-half) in
@@ -137,7 +142,8 @@ accepted-by long ranged blocked short c wanted asked k l a u =
       asked-40 = omega arith;
     }
 
-pub accepted : (c : Condition) (wanted : List ℕ) (asked room : ℕ) → planRefusal c wanted asked room ≡ 0 → Accepted c wanted asked × (44 ≤ room)
+pub accepted : (c : Condition) (wanted : List ℕ) (asked room : ℕ) → planRefusal c wanted asked room ≡ 0
+    → Accepted c wanted asked × (44 ≤ room)
 unfolding planRefusal
 accepted c wanted asked room e =
     let k = clear (eqb (length wanted) 40) (leb asked 39) (onMove (c .users)) (ltb room 44) c wanted e in
@@ -153,10 +159,12 @@ pub record FontsAccepted (c : Condition) (wanted fonts : List ℕ) (asked : ℕ)
   pub switchable : Switchable c fonts
   pub fonts-40 : length fonts ≡ 40
 
-pub fonts-accepted : (c : Condition) (wanted fonts : List ℕ) (asked room : ℕ) → fontsRefusal c wanted fonts asked room ≡ 0 → FontsAccepted c wanted fonts asked × (104 ≤ room)
+pub fonts-accepted : (c : Condition) (wanted fonts : List ℕ) (asked room : ℕ) → fontsRefusal c wanted fonts asked room ≡ 0
+    → FontsAccepted c wanted fonts asked × (104 ≤ room)
 unfolding fontsRefusal onSwitch
 fonts-accepted c wanted fonts asked room e =
-    let k = clear (eqb (length wanted) 40 && eqb (length fonts) 40) (leb asked 39 && allUpTo 1 fonts) (onMove (c .users) || onSwitch (c .users)) (ltb room 104) c wanted e in
+    let k = clear (eqb (length wanted) 40 && eqb (length fonts) 40) (leb asked 39 && allUpTo 1 fonts)
+    (onMove (c .users) || onSwitch (c .users)) (ltb room 104) c wanted e in
     let l = eqb-true _ _ (both (eqb (length wanted) 40) _ (k .lengths) .0) in
     let m : length fonts ≡ 40 = eqb-true _ _ (both (eqb (length wanted) 40) _ (k .lengths) .1) in
     let u = neither (onMove (c .users)) (onSwitch (c .users)) (k .unblocked) in
@@ -178,22 +186,25 @@ fonts-accepted c wanted fonts asked room e =
     )
 
 -- what the accepted plans are for
-pub plan-delivers : (c : Condition) (wanted : List ℕ) (asked room : ℕ) → planRefusal c wanted asked room ≡ 0 → length (c .codes) ≡ 40 → length (c .fonts) ≡ 40
-    → Delivers c wanted asked (plan c wanted asked)
+pub plan-delivers : (c : Condition) (wanted : List ℕ) (asked room : ℕ) → planRefusal c wanted asked room ≡ 0
+    → length (c .codes) ≡ 40 → length (c .fonts) ≡ 40 → Delivers c wanted asked (plan c wanted asked)
 plan-delivers c wanted asked room e lc lf = delivers c wanted asked (accepted c wanted asked room e .0 .plannable lc lf)
 
-pub fonts-plan-delivers : (c : Condition) (wanted fonts : List ℕ) (asked room : ℕ) → fontsRefusal c wanted fonts asked room ≡ 0 → length (c .codes) ≡ 40 → length (c .fonts) ≡ 40
-    → FontsDelivers c wanted fonts asked (fontsPlan c wanted fonts asked)
+pub fonts-plan-delivers : (c : Condition) (wanted fonts : List ℕ) (asked room : ℕ) → fontsRefusal c wanted fonts asked room ≡ 0
+    → length (c .codes) ≡ 40 → length (c .fonts) ≡ 40 → FontsDelivers c wanted fonts asked (fontsPlan c wanted fonts asked)
 fonts-plan-delivers c wanted fonts asked room e lc lf =
     let t = fonts-accepted c wanted fonts asked room e .0 in
     fonts-deliver c wanted fonts asked (t .codes .plannable lc lf) (t .switchable)
 
 -- and their room
-pub plan-fits : (c : Condition) (wanted : List ℕ) (asked room : ℕ) → 44 ≤ room → length (fontsPlan c wanted (replicate 40 (c .font)) asked) ≤ room
+pub plan-fits : (c : Condition) (wanted : List ℕ) (asked room : ℕ) → 44 ≤ room
+    → length (fontsPlan c wanted (replicate 40 (c .font)) asked) ≤ room
 plan-fits c wanted asked room r = omega (arith, ap length (one-font c wanted asked), plan-most c wanted asked)
 
-pub fonts-fit : (c : Condition) (wanted fonts : List ℕ) (asked room : ℕ) → FontsAccepted c wanted fonts asked → 104 ≤ room → length (fontsPlan c wanted fonts asked) ≤ room
-fonts-fit c wanted fonts asked room t r = omega (arith, fonts-most c wanted fonts asked (t .switchable .wanted-fonts-1) (t .codes .font-1))
+pub fonts-fit : (c : Condition) (wanted fonts : List ℕ) (asked room : ℕ) → FontsAccepted c wanted fonts asked → 104 ≤ room
+    → length (fontsPlan c wanted fonts asked) ≤ room
+fonts-fit c wanted fonts asked room t r =
+    omega (arith, fonts-most c wanted fonts asked (t .switchable .wanted-fonts-1) (t .codes .font-1))
 
 -- Answers -------------------------------------------------------------------------------------------------------------------------
 
@@ -207,11 +218,13 @@ module _ (number : ℕ) (bytes : List ℕ) (For : List ℕ → Type 0) (out : Li
       let t = ne-eqb number 0 (λ (h : number ≡ 0). z (e ∙ h)) in
       record { answer = rw (t, e); output = rw t; delivers = λ h. absurd (z h) }
 
-  pub taken-on : (after : List ℕ) (n : ℕ) → number ≡ 0 → For bytes → n ≡ length bytes → after ≡ atStart bytes out → Promise number bytes For out after (planned 0 n)
+  pub taken-on : (after : List ℕ) (n : ℕ) → number ≡ 0 → For bytes → n ≡ length bytes → after ≡ atStart bytes out
+      → Promise number bytes For out after (planned 0 n)
   unfolding bytesBy
   taken-on after n e d en eo =
       record { answer = rw (e, en); output = rw e eo; delivers = λ h. rw (en, eo, take-append-seam bytes _) d }
 
   -- two answers that a promise allows, and what they leave in the buffer, are the same
-  pub one-plan : (a b : List ℕ) (r s : Planned) → Promise number bytes For out a r → Promise number bytes For out b s → (r ≡ s) × (a ≡ b)
+  pub one-plan : (a b : List ℕ) (r s : Planned) → Promise number bytes For out a r → Promise number bytes For out b s
+      → (r ≡ s) × (a ≡ b)
   one-plan a b r s f g = (f .answer ∙ sym (g .answer), f .output ∙ sym (g .output))

@@ -82,5 +82,5 @@ Plans c wanted asked before after r =
 -- what `plan_fonts` promises
 abbrev pub PlansFonts : Condition → List ℕ → List ℕ → ℕ → List ℕ → List ℕ → Planned → Type 0
 PlansFonts c wanted fonts asked before after r =
-    Promise (fontsRefusal c wanted fonts asked (length before)) (fontsPlan c wanted fonts asked) (FontsDelivers c wanted fonts asked)
-    before after r
+    Promise (fontsRefusal c wanted fonts asked (length before)) (fontsPlan c wanted fonts asked)
+    (FontsDelivers c wanted fonts asked) before after r

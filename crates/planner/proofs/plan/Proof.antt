@@ -26,7 +26,8 @@ slice-aggregate-put-plan c = search needs
 
 cast-put-plan : tie.Need-cast-put-plan
 cast-put-plan c =
-    let t = accepted _ _ _ _ (sym (c .before .before .before .before .of-plan .ensures) ∙ c .before .before .before .if1 .left) .0 in
+    let f = c .before .before .before in
+    let t = accepted _ _ _ _ (sym (f .before .of-plan .ensures) ∙ f .if1 .left) .0 in
     omega (arith, t .asked-40)
 
 put-plan-requires : tie.Need-put-plan-requires
