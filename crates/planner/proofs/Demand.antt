@@ -93,8 +93,8 @@ module _ (switching : Bool) (Ok : ℕ → Type 0) (font : ℕ → ℕ) (c : Cond
       → ((i : ℕ) → i < 40 → Ok (font i)) → Switches switching (c .euro) (isChar c) Ok font wanted asked
       → Serves switching Ok c wanted gs asked (made font c wanted asked)
   serves r long same ok fonts-ok switches =
-      let d = deliver switching (c .euro) (isChar c) Ok font wanted asked (r .escape-free) (r .moves-free) switches fonts-ok (r .shown)
-      (r .asked-40) 40 0 (c .cursor) 0 (c .font) (c .codes) (c .fonts) ok (r .codes-40) (r .fonts-40) refl (omega arith)
+      let d = deliver switching (c .euro) (isChar c) Ok font wanted asked (r .escape-free) (r .moves-free) switches fonts-ok
+      (r .shown) (r .asked-40) 40 0 (c .cursor) 0 (c .font) (c .codes) (c .fonts) ok (r .codes-40) (r .fonts-40) refl (omega arith)
       (λ j l. absurd (omega arith)) in
       let g = plan-reaches switching (c .euro) (isChar c) font wanted gs asked (c .cursor) (c .font) (c .codes) (c .fonts)
       (r .wanted-40) long (r .codes-40) (r .fonts-40) same (r .ready .inside) Ok d in

@@ -1,16 +1,55 @@
 use mathlib.Core.Path.{_≡_, sym, ap, subst⁻¹, _∙_}
 use mathlib.Core.List.{List}
-use Prim.Native.Nat.{ℕ}
+use Prim.Native.Nat.{ℕ, _≤_}
 use native.Mathlib.Omega.{arith}
-use lib.ListN.{length}
+use lib.ListN.{length, replicate}
 use Rattle.moves.specs.Moves.{Numbers}
 use Rattle.moves.proofs.Entries.{numbers-right}
+use Rattle.planner.specs.Plan.{plan, Delivers}
+use Rattle.planner.specs.Fonts.{fontsPlan}
 use Rattle.planner.specs.Answer.{planRefusal}
-use Rattle.planner.proofs.Demand.{plan-most, one-font}
-use Rattle.planner.proofs.Refusals.{accepted, plan-fits, plan-delivers, refused, taken-on}
+use Rattle.planner.proofs.Demand.{one-font}
+use Rattle.planner.proofs.Refusals.{Accepted, accepted, plan-fits, plan-delivers, refused, taken-on}
 use borrow.Author.Needs.{needs}
 use Rattle.planner.proofs.plan.Statement.{statement}
 use Rattle.planner.proofs.plan.Tie as tie
+
+-- Where no refusal is given ------------------------------------------------------------------------------------------------------
+
+abbrev None : tie.Else1 → Type 0
+None c =
+    let a = c .before .before .before .before .args in
+    planRefusal (a .c) (a .wanted .now) (a .asked) (length (a .out .now)) ≡ 0
+
+none : (c : tie.Else1) → None c
+none c = sym (c .before .of-plan .ensures) ∙ c .if1 .left
+
+abbrev Given : tie.Else1 → Type 0
+Given c =
+    let a = c .before .before .before .before .args in
+    Accepted (a .c) (a .wanted .now) (a .asked) × (44 ≤ length (a .out .now))
+
+given : (c : tie.Else1) → Given c
+given c = accepted _ _ _ _ (none c)
+
+abbrev Served : tie.Else1 → Type 0
+Served c =
+    let a = c .before .before .before .before .args in
+    Delivers (a .c) (a .wanted .now) (a .asked) (plan (a .c) (a .wanted .now) (a .asked))
+
+served : (c : tie.Else1) → Served c
+served c = plan-delivers _ _ _ _ (none c) (search needs) (search needs)
+
+-- the bytes that are put are those of the plan in one font
+abbrev Same : tie.Else1 → Type 0
+Same c =
+    let a = c .before .before .before .before .args in
+    fontsPlan (a .c) (a .wanted .now) (replicate 40 (a .c .font)) (a .asked) ≡ plan (a .c) (a .wanted .now) (a .asked)
+
+same : (c : tie.Else1) → Same c
+same c = one-font _ _ _
+
+-- The needs -----------------------------------------------------------------------------------------------------------------------
 
 of-plan-requires : tie.Need-of-plan-requires
 of-plan-requires c κs = search needs
@@ -25,40 +64,28 @@ slice-aggregate-put-plan : tie.Need-slice-aggregate-put-plan
 slice-aggregate-put-plan c = search needs
 
 cast-put-plan : tie.Need-cast-put-plan
-cast-put-plan c =
-    let f = c .before .before .before in
-    let t = accepted _ _ _ _ (sym (f .before .of-plan .ensures) ∙ f .if1 .left) .0 in
-    omega (arith, t .asked-40)
+cast-put-plan c = omega (arith, given (c .before .before .before) .0 .asked-40)
 
 put-plan-requires : tie.Need-put-plan-requires
 put-plan-requires c κs =
-    let f = c .before .before .before .before in
-    let a = f .before .before .before .before .args in
-    let t = accepted _ _ _ _ (sym (f .before .of-plan .ensures) ∙ f .if1 .left) in
-    let numbers =
-    subst⁻¹ (λ (rows : List (List ℕ)). Numbers rows) (c .before .before .before .numbers .ensures .answer) numbers-right in
-    (t .0 .wanted-40, search needs, t .0 .cursor-40, t .0 .asked-40, plan-fits (a .c) _ _ _ (t .1), numbers)
+    let n = c .before .before .before .numbers .ensures .answer in
+    let t = given (c .before .before .before .before) in
+    let numbers = subst⁻¹ (λ (rows : List (List ℕ)). Numbers rows) n numbers-right in
+    (t .0 .wanted-40, search needs, t .0 .cursor-40, t .0 .asked-40, plan-fits _ _ _ _ (t .1), numbers)
 
 cast-t15 : tie.Need-cast-t15
 cast-t15 c =
-    let a = c .before .before .before .before .before .before .before .before .before .before .before .args in
-    let o = one-font (a .c) (a .wanted .now) (a .asked) in
-    omega (arith, c .before .before .put-plan .ensures .0, ap length o, plan-most (a .c) (a .wanted .now) (a .asked))
+    let f = c .before .before .before .before .before .before .before in
+    omega (arith, c .before .before .put-plan .ensures .0, ap length (same f), served f .most)
 
 same-length : tie.Need-same-length
 same-length c = search needs
 
 returns-2 : tie.Need-returns-2
 returns-2 c =
-    let a = c .before .before .before .before .before .before .before .before .before .before .before .args in
-    let lc : length (a .c .codes) ≡ 40 = search needs in
-    let lf : length (a .c .fonts) ≡ 40 = search needs in
     let f = c .before .before .before .before .before .before .before in
-    let e : planRefusal (a .c) (a .wanted .now) (a .asked) (length (a .out .now)) ≡ 0 =
-    sym (f .before .of-plan .ensures) ∙ f .if1 .left in
     let p = c .before .before .put-plan .ensures in
-    let o = one-font (a .c) (a .wanted .now) (a .asked) in
-    taken-on _ _ _ _ _ _ e (plan-delivers (a .c) (a .wanted .now) (a .asked) _ e lc lf) (rw (← o) (p .0)) (rw (← o) (p .1))
+    taken-on _ _ _ _ _ _ (none f) (served f) (rw (← same f) (p .0)) (rw (← same f) (p .1))
 
 pub plan-spec : {M : Type 1} → statement M
 plan-spec =

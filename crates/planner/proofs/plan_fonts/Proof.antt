@@ -1,16 +1,44 @@
 use mathlib.Core.Path.{_≡_, sym, subst⁻¹, _∙_}
 use mathlib.Core.List.{List}
-use Prim.Native.Nat.{ℕ}
+use Prim.Native.Nat.{ℕ, _≤_}
 use native.Mathlib.Omega.{arith}
 use lib.ListN.{length}
 use Rattle.moves.specs.Moves.{Numbers}
 use Rattle.moves.proofs.Entries.{numbers-right}
+use Rattle.planner.specs.Fonts.{fontsPlan, FontsDelivers}
 use Rattle.planner.specs.Answer.{fontsRefusal}
-use Rattle.planner.proofs.Demand.{fonts-most}
-use Rattle.planner.proofs.Refusals.{fonts-accepted, fonts-fit, fonts-plan-delivers, refused, taken-on}
+use Rattle.planner.proofs.Refusals.{FontsAccepted, fonts-accepted, fonts-fit, fonts-plan-delivers, refused, taken-on}
 use borrow.Author.Needs.{needs}
 use Rattle.planner.proofs.plan_fonts.Statement.{statement}
 use Rattle.planner.proofs.plan_fonts.Tie as tie
+
+-- Where no refusal is given ------------------------------------------------------------------------------------------------------
+
+abbrev None : tie.Else1 → Type 0
+None c =
+    let a = c .before .before .before .before .before .args in
+    fontsRefusal (a .c) (a .wanted .now) (a .fonts .now) (a .asked) (length (a .out .now)) ≡ 0
+
+none : (c : tie.Else1) → None c
+none c = sym (c .before .of-fonts .ensures) ∙ c .if1 .left
+
+abbrev Given : tie.Else1 → Type 0
+Given c =
+    let a = c .before .before .before .before .before .args in
+    FontsAccepted (a .c) (a .wanted .now) (a .fonts .now) (a .asked) × (104 ≤ length (a .out .now))
+
+given : (c : tie.Else1) → Given c
+given c = fonts-accepted _ _ _ _ _ (none c)
+
+abbrev Served : tie.Else1 → Type 0
+Served c =
+    let a = c .before .before .before .before .before .args in
+    FontsDelivers (a .c) (a .wanted .now) (a .fonts .now) (a .asked) (fontsPlan (a .c) (a .wanted .now) (a .fonts .now) (a .asked))
+
+served : (c : tie.Else1) → Served c
+served c = fonts-plan-delivers _ _ _ _ _ (none c) (search needs) (search needs)
+
+-- The needs -----------------------------------------------------------------------------------------------------------------------
 
 of-fonts-requires : tie.Need-of-fonts-requires
 of-fonts-requires c κs = search needs
@@ -22,41 +50,27 @@ numbers-requires : tie.Need-numbers-requires
 numbers-requires c κs = search needs
 
 cast-put-plan : tie.Need-cast-put-plan
-cast-put-plan c =
-    let t = fonts-accepted _ _ _ _ _ (sym (c .before .before .before .of-fonts .ensures) ∙ c .before .before .if1 .left) .0 in
-    omega (arith, t .codes .asked-40)
+cast-put-plan c = omega (arith, given (c .before .before) .0 .codes .asked-40)
 
 put-plan-requires : tie.Need-put-plan-requires
 put-plan-requires c κs =
-    let f = c .before .before .before in
-    let t = fonts-accepted _ _ _ _ _ (sym (f .before .of-fonts .ensures) ∙ f .if1 .left) in
+    let t = given (c .before .before .before) in
     let u = t .0 .codes in
     let numbers = subst⁻¹ (λ (rows : List (List ℕ)). Numbers rows) (c .before .before .numbers .ensures .answer) numbers-right in
     (u .wanted-40, t .0 .fonts-40, u .cursor-40, u .asked-40, fonts-fit _ _ _ _ _ (t .0) (t .1), numbers)
 
 cast-t13 : tie.Need-cast-t13
 cast-t13 c =
-    let f = c .before .before .before .before .before .before in
-    let a = f .before .before .before .before .before .args in
-    let e : fontsRefusal (a .c) (a .wanted .now) (a .fonts .now) (a .asked) (length (a .out .now)) ≡ 0 =
-    sym (f .before .of-fonts .ensures) ∙ f .if1 .left in
-    let t = fonts-accepted (a .c) (a .wanted .now) (a .fonts .now) (a .asked) _ e .0 in
-    let most = fonts-most (a .c) (a .wanted .now) (a .fonts .now) (a .asked) (t .switchable .wanted-fonts-1) (t .codes .font-1) in
-    omega (arith, c .before .before .put-plan .ensures .0, most)
+    omega (arith, c .before .before .put-plan .ensures .0, served (c .before .before .before .before .before .before) .most)
 
 same-length : tie.Need-same-length
 same-length c = search needs
 
 returns-2 : tie.Need-returns-2
 returns-2 c =
-    let a = c .before .before .before .before .before .before .before .before .before .before .before .args in
-    let lc : length (a .c .codes) ≡ 40 = search needs in
-    let lf : length (a .c .fonts) ≡ 40 = search needs in
     let f = c .before .before .before .before .before .before in
-    let e : fontsRefusal (a .c) (a .wanted .now) (a .fonts .now) (a .asked) (length (a .out .now)) ≡ 0 =
-    sym (f .before .of-fonts .ensures) ∙ f .if1 .left in
     let p = c .before .before .put-plan .ensures in
-    taken-on _ _ _ _ _ _ e (fonts-plan-delivers (a .c) (a .wanted .now) (a .fonts .now) (a .asked) _ e lc lf) (p .0) (p .1)
+    taken-on _ _ _ _ _ _ (none f) (served f) (p .0) (p .1)
 
 pub plan-fonts-spec : {M : Type 1} → statement M
 plan-fonts-spec =
