@@ -196,10 +196,10 @@ string-law c bs b w one p free free27 l =
     ∙ (λ i. withPending (withCursor c b) (sym (r .whole) i))
 
 -- what is shown of a condition, shown of one that is the same
-go : (k : Jump) (a : ℕ) (xs : List ℕ) {d e : Condition} → d ≡ e
+carried : (k : Jump) (a : ℕ) (xs : List ℕ) {d e : Condition} → d ≡ e
     → (inOrder e 40 xs ≡ true → leadsTo k a (runOf e xs .cursor) xs ≡ true)
     → inOrder d 40 xs ≡ true → leadsTo k a (runOf d xs .cursor) xs ≡ true
-go k a xs n f o =
+carried k a xs n f o =
     subst (λ (e : Condition). leadsTo k a (runOf e xs .cursor) xs ≡ true) (sym n)
     (f (subst (λ (e : Condition). inOrder e 40 xs ≡ true) n o))
 
@@ -224,25 +224,26 @@ leads-back c r (x ∷ xs) none a h o =
     ⊎-elim
     (λ (z : eqb x 0x1B ≡ true). let q : x ≡ 0x1B = eqb-true x 0x1B z in
     let n = ap (stepOf d) q ∙ escapes d (partly-ready c a r h) (ap (isUser (c .users)) (sym q) ∙ u) in
-    rw z (go escape a xs n (leads-back c r xs escape a h) on))
+    rw z (carried escape a xs n (leads-back c r xs escape a h) on))
     (λ (z : eqb x 0x1B ≡ false). let i : any (eqb x) moves ≡ true = sym (is-move x) ∙ (rw (z, or-false) at m) in
     let n = moves-to d (partly-ready c a r h) x i u in
-    rw (z, i) (go none (move x a) xs n (leads-back c r xs none (move x a) (move-below x a h)) on))
+    rw (z, i) (carried none (move x a) xs n (leads-back c r xs none (move x a) (move-below x a h)) on))
     (bool (eqb x 0x1B)))
     (bool (isChar c x))
 leads-back c r (x ∷ xs) escape a h o =
     let e = both (eqb x 0x48) _ o .0 in
     let n = ap (stepOf (partly c escape a)) (eqb-true x 0x48 e) in
-    rw e (go place a xs n (leads-back c r xs place a h) (both (eqb x 0x48) _ o .1))
+    rw e (carried place a xs n (leads-back c r xs place a h) (both (eqb x 0x48) _ o .1))
 leads-back c r (x ∷ xs) place a h o =
     let e = both (leb x 0x27) _ o .0 in
     let z : x < 40 = (let k = leb-true x 0x27 e in omega arith) in
     let n = placed (withCursor c a) x (r .still) z in
-    rw e (go none x xs n (leads-back c r xs none x z) (both (leb x 0x27) _ o .1))
+    rw e (carried none x xs n (leads-back c r xs none x z) (both (leb x 0x27) _ o .1))
 
 pub writeless : (c : Condition) (bs : List ℕ) → Ready c → inOrder c 40 bs ≡ true
     → leadsTo none (c .cursor) (runOf c bs .cursor) bs ≡ true
-writeless c bs r o = go none (c .cursor) bs (λ i. withPending c (r .whole i)) (leads-back c r bs none (c .cursor) (r .inside)) o
+writeless c bs r o =
+    carried none (c .cursor) bs (λ i. withPending c (r .whole i)) (leads-back c r bs none (c .cursor) (r .inside)) o
 
 -- so, of all strings of the planner's steps that write nothing and bring the cursor to b, none is shorter than its way, and none of
 -- that length is smaller

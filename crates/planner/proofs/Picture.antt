@@ -156,56 +156,57 @@ module _ (switching mark : Bool) (chars : ℕ → Bool) (Ok : ℕ → Type 0) (f
     pub selected : Ok (g .font)
 
   -- a string of steps that gives the picture and the cursor
-  pub record Good (g : Canvas) (lo : ℕ) (bs : List ℕ) : Type 0 where
+  pub record Paints (g : Canvas) (lo : ℕ) (bs : List ℕ) : Type 0 where
     pub steps : ordered switching mark chars g lo bs ≡ true
     pub final : Final (run switching mark chars g bs)
 
   -- the switch from any such font to any other is of the steps
   abbrev pub Switches : Type 0
   Switches =
-      (f h p lo : ℕ) (cs fs t : List ℕ) → Ok f → Ok h → Good (canvas none p h cs fs) lo t
-      → Good (canvas none p f cs fs) lo (switch mark f h ++ t)
+      (f h p lo : ℕ) (cs fs t : List ℕ) → Ok f → Ok h → Paints (canvas none p h cs fs) lo t
+      → Paints (canvas none p f cs fs) lo (switch mark f h ++ t)
 
-  put-good : (p lo b f : ℕ) (cs fs t : List ℕ) → chars b ≡ true → lo ≤ p
-      → Good (canvas none (next p) f (set cs p b) (set fs p f)) (suc p) t → Good (canvas none p f cs fs) lo (b ∷ t)
+  put-paints : (p lo b f : ℕ) (cs fs t : List ℕ) → chars b ≡ true → lo ≤ p
+      → Paints (canvas none (next p) f (set cs p b) (set fs p f)) (suc p) t → Paints (canvas none p f cs fs) lo (b ∷ t)
   unfolding stepAt allowed lowAt
-  put-good p lo b f cs fs t e h g = record { steps = rw (e, le-leb lo p h) (g .steps); final = rw e (g .final) }
+  put-paints p lo b f cs fs t e h g = record { steps = rw (e, le-leb lo p h) (g .steps); final = rw e (g .final) }
 
   module _ (free27 : chars 0x1B ≡ false) (free : (b : ℕ) → any (eqb b) moves ≡ true → chars b ≡ false) where
-    move-good : (m p lo f : ℕ) (cs fs t : List ℕ) → any (eqb m) moves ≡ true → eqb m 0x1B ≡ false
-        → Good (canvas none (move m p) f cs fs) lo t → Good (canvas none p f cs fs) lo (m ∷ t)
+    move-paints : (m p lo f : ℕ) (cs fs t : List ℕ) → any (eqb m) moves ≡ true → eqb m 0x1B ≡ false
+        → Paints (canvas none (move m p) f cs fs) lo t → Paints (canvas none p f cs fs) lo (m ∷ t)
     unfolding stepAt allowed lowAt
-    move-good m p lo f cs fs t i z g =
+    move-paints m p lo f cs fs t i z g =
         let c = free m i in
         record { steps = rw (c, z, i) (g .steps); final = rw (c, z, i) (g .final) }
 
-    jump-good : (p lo r f : ℕ) (cs fs t : List ℕ) → r < 40
-        → Good (canvas none r f cs fs) lo t → Good (canvas none p f cs fs) lo (0x1B ∷ 0x48 ∷ r ∷ t)
+    jump-paints : (p lo r f : ℕ) (cs fs t : List ℕ) → r < 40
+        → Paints (canvas none r f cs fs) lo t → Paints (canvas none p f cs fs) lo (0x1B ∷ 0x48 ∷ r ∷ t)
     unfolding stepAt allowed lowAt
-    jump-good p lo r f cs fs t h g =
+    jump-paints p lo r f cs fs t h g =
         record { steps = rw (free27, le-leb r 0x27 (omega arith)) (g .steps); final = rw free27 (g .final) }
 
-    walk-good : (n a b lo f : ℕ) (cs fs t : List ℕ) → dist a b ≡ n → b < 40 → Good (canvas none b f cs fs) lo t
-        → Good (canvas none a f cs fs) lo (pathOf n a b ++ t)
+    walk-paints : (n a b lo f : ℕ) (cs fs t : List ℕ) → dist a b ≡ n → b < 40 → Paints (canvas none b f cs fs) lo t
+        → Paints (canvas none a f cs fs) lo (pathOf n a b ++ t)
     unfolding pathOf
-    walk-good zero a b lo f cs fs t e h g = rw (dist-zero a b e) g
-    walk-good (suc n) a b lo f cs fs t e h g =
+    walk-paints zero a b lo f cs fs t e h g = rw (dist-zero a b e) g
+    walk-paints (suc n) a b lo f cs fs t e h g =
         let m = firstByte n a b in
         ⊎-elim
         (λ r. rw (r .0)
-        (move-good m a lo f cs fs (pathOf n (move m a) b ++ t) (r .1) (r .0) (walk-good n (move m a) b lo f cs fs t (r .2) h g)))
-        (λ r. rw (r .0) (jump-good a lo b f cs fs t h g))
+        (move-paints m a lo f cs fs (pathOf n (move m a) b ++ t) (r .1) (r .0)
+        (walk-paints n (move m a) b lo f cs fs t (r .2) h g)))
+        (λ r. rw (r .0) (jump-paints a lo b f cs fs t h g))
         (first-byte n a b e)
 
     module _ (switches : Switches) (fonts-ok : (i : ℕ) → i < 40 → Ok (font i))
         (shown : (i : ℕ) → i < 40 → chars (getD ws i 0) ≡ true) (q-in : q < 40) where
       pub deliver : (n i p lo f : ℕ) (cs fs : List ℕ) → Ok f → length cs ≡ 40 → length fs ≡ 40 → i + n ≡ 40 → lo ≤ i
           → ((j : ℕ) → j < i → wrongIn font ws cs fs j ≡ false)
-          → Good (canvas none p f cs fs) lo (fontsPlanOf mark ws font q p f (flagged (wrongIn font ws cs fs) n i))
+          → Paints (canvas none p f cs fs) lo (fontsPlanOf mark ws font q p f (flagged (wrongIn font ws cs fs) n i))
       unfolding fontsPlanOf path flagged whole
       deliver zero i p lo f cs fs k lc lf e l h =
           let d : Done font ws q (canvas none q f cs fs) = record { right = λ j m. h j (omega arith); here = refl } in
-          rw (← append-nil (path p q)) (walk-good (dist p q) p q lo f cs fs [] refl q-in
+          rw (← append-nil (path p q)) (walk-paints (dist p q) p q lo f cs fs [] refl q-in
           (record { steps = refl; final = record { codesLength = lc; fontsLength = lf; done = d; selected = k } }))
       deliver (suc n) i p lo f cs fs k lc lf e l h =
           let w = wrongIn font ws cs fs in
@@ -219,9 +220,9 @@ module _ (switching mark : Bool) (chars : ℕ → Bool) (Ok : ℕ → Type 0) (f
           ∙ rw (eq-eqb b b refl, eq-eqb (font i) (font i) refl) in
           ⊎-elim
           (λ z. rw (flagged-yes w n i z, flagged-same w v n (suc i) (λ j m r. sym (alike j (omega arith))))
-          (walk-good (dist p i) p i lo f cs fs _ refl (omega arith)
+          (walk-paints (dist p i) p i lo f cs fs _ refl (omega arith)
           (switches f (font i) i lo cs fs _ k (fonts-ok i (omega arith))
-          (put-good i lo b (font i) cs fs _ (shown i (omega arith)) l
+          (put-paints i lo b (font i) cs fs _ (shown i (omega arith)) l
           (deliver n (suc i) (next i) (suc i) (font i) cs1 fs1 (fonts-ok i (omega arith)) (length-set cs i b ∙ lc)
           (length-set fs i (font i) ∙ lf) (omega arith) (omega arith)
           (up _ i (λ j m. alike j (omega arith) ∙ h j m) here))))))
@@ -239,16 +240,16 @@ stays switching mark chars f font ws q g h p lo cs fs t eg eh z =
 module _ (mark : Bool) (chars : ℕ → Bool) (font : ℕ → ℕ) (ws : List ℕ) (q : ℕ)
     (free18 : chars 0x18 ≡ false) (free19 : chars 0x19 ≡ false) (free1A : chars 0x1A ≡ false) where
   abbrev Gets : ℕ → ℕ → ℕ → List ℕ → List ℕ → List ℕ → Type 0
-  Gets f p lo cs fs t = Good true mark chars (λ h. h ≤ 1) font ws q (canvas none p f cs fs) lo t
+  Gets f p lo cs fs t = Paints true mark chars (λ h. h ≤ 1) font ws q (canvas none p f cs fs) lo t
 
-  on-good : (f p lo : ℕ) (cs fs t : List ℕ) → Gets 1 p lo cs fs t → Gets f p lo cs fs (0x19 ∷ t)
+  on-paints : (f p lo : ℕ) (cs fs t : List ℕ) → Gets 1 p lo cs fs t → Gets f p lo cs fs (0x19 ∷ t)
   unfolding stepAt allowed lowAt
-  on-good f p lo cs fs t z = record { steps = rw free19 (z .steps); final = rw free19 (z .final) }
+  on-paints f p lo cs fs t z = record { steps = rw free19 (z .steps); final = rw free19 (z .final) }
 
-  back-good : (f p lo : ℕ) (cs fs t : List ℕ) → Gets 0 p lo cs fs t
+  back-paints : (f p lo : ℕ) (cs fs t : List ℕ) → Gets 0 p lo cs fs t
       → Gets f p lo cs fs (cond mark (0x18 ∷ 0x1A ∷ []) (0x18 ∷ []) ++ t)
   unfolding stepAt allowed lowAt
-  back-good f p lo cs fs t z =
+  back-paints f p lo cs fs t z =
       ⊎-elim
       (λ (e : mark ≡ true).
       record { steps = rw (e, free18, free1A) (rw e at (z .steps)); final = rw (e, free18) (rw e at (z .final)) })
@@ -260,9 +261,9 @@ module _ (mark : Bool) (chars : ℕ → Bool) (font : ℕ → ℕ) (ws : List �
   switches-both f h p lo cs fs t lf lh z =
       ⊎-elim (λ (e : eqb f h ≡ true). rw (e, eqb-true f h e) z)
       (λ (e : eqb f h ≡ false).
-      ⊎-elim (λ (y : eqb h 1 ≡ true). rw (e, y) (on-good f p lo cs fs t (rw (eqb-true h 1 y) at z)))
+      ⊎-elim (λ (y : eqb h 1 ≡ true). rw (e, y) (on-paints f p lo cs fs t (rw (eqb-true h 1 y) at z)))
       (λ (y : eqb h 1 ≡ false). let w : h ≡ 0 = omega (arith, eqb-false h 1 y) in
-      rw (e, y) (back-good f p lo cs fs t (rw w at z)))
+      rw (e, y) (back-paints f p lo cs fs t (rw w at z)))
       (bool (eqb h 1)))
       (bool (eqb f h))
 
@@ -284,7 +285,7 @@ module _ (switching mark : Bool) (chars : ℕ → Bool) (font : ℕ → ℕ) (ws
   abbrev planHere : List ℕ
   planHere = fontsPlanOf mark ws font q p f (wrongsIn font ws cs fs)
 
-  pub plan-reaches : (Ok : ℕ → Type 0) → Good switching mark chars Ok font ws q (canvas none p f cs fs) 0 planHere
+  pub plan-reaches : (Ok : ℕ → Type 0) → Paints switching mark chars Ok font ws q (canvas none p f cs fs) 0 planHere
       → Reaches switching mark chars ws gs q (canvas none p f cs fs) planHere
       × Ok (run switching mark chars (canvas none p f cs fs) planHere .font)
   plan-reaches Ok g =

@@ -27,7 +27,7 @@ use Rattle.planner.specs.Answer.{onMove, onSwitch, lacks, someLacks, ref
 use Rattle.planner.proofs.Demand.{Plannable, Switchable, plan-most, delivers, fonts-most, fonts-deliver, one-font}
 
 -- no refusal is given
-record Clear (long ranged blocked short : Bool) (c : Condition) (wanted : List ℕ) : Type 0 where
+record Unrefused (long ranged blocked short : Bool) (c : Condition) (wanted : List ℕ) : Type 0 where
   lengths : long ≡ true
   formed : wellFormed c ≡ true
   in-range : ranged ≡ true
@@ -37,10 +37,10 @@ record Clear (long ranged blocked short : Bool) (c : Condition) (wanted : List �
   codes-shown : someLacks (c .users) wanted ≡ false
   room : short ≡ false
 
-clear : (long ranged blocked short : Bool) (c : Condition) (wanted : List ℕ) → refusalBy long ranged blocked short c wanted ≡ 0
-    → Clear long ranged blocked short c wanted
+unrefused : (long ranged blocked short : Bool) (c : Condition) (wanted : List ℕ) → refusalBy long ranged blocked short c wanted ≡ 0
+    → Unrefused long ranged blocked short c wanted
 unfolding refusalBy
-clear long ranged blocked short c wanted e =
+unrefused long ranged blocked short c wanted e =
     let p1 = passed (not long) _ _ e in
     let p3 = passed (not (wellFormed c && ranged)) _ _ (p1 .1) in
     let p6 = passed (not (idle (c .pending))) _ _ (p3 .1) in
@@ -119,7 +119,7 @@ pub record Accepted (c : Condition) (wanted : List ℕ) (asked : ℕ) : Type 0 w
   pub asked-40 : asked < 40
 
 accepted-by : (long ranged blocked short : Bool) (c : Condition) (wanted : List ℕ) (asked : ℕ)
-    → Clear long ranged blocked short c wanted → length wanted ≡ 40 → leb asked 39 ≡ true → onMove (c .users) ≡ false
+    → Unrefused long ranged blocked short c wanted → length wanted ≡ 40 → leb asked 39 ≡ true → onMove (c .users) ≡ false
     → Accepted c wanted asked
 accepted-by long ranged blocked short c wanted asked k l a u =
     let q : asked ≤ 39 = leb-true asked 39 a in
@@ -146,7 +146,7 @@ pub accepted : (c : Condition) (wanted : List ℕ) (asked room : ℕ) → planRe
     → Accepted c wanted asked × (44 ≤ room)
 unfolding planRefusal
 accepted c wanted asked room e =
-    let k = clear (eqb (length wanted) 40) (leb asked 39) (onMove (c .users)) (ltb room 44) c wanted e in
+    let k = unrefused (eqb (length wanted) 40) (leb asked 39) (onMove (c .users)) (ltb room 44) c wanted e in
     (accepted-by _ _ _ _ c wanted asked k (eqb-true _ _ (k .lengths)) (k .in-range) (k .unblocked), ltb-false room 44 (k .room))
 
 -- for two fonts: 18h, 19h and 1Ah are steps, and the fonts are 0 or 1
@@ -163,7 +163,7 @@ pub fonts-accepted : (c : Condition) (wanted fonts : List ℕ) (asked room : ℕ
     → FontsAccepted c wanted fonts asked × (104 ≤ room)
 unfolding fontsRefusal onSwitch
 fonts-accepted c wanted fonts asked room e =
-    let k = clear (eqb (length wanted) 40 && eqb (length fonts) 40) (leb asked 39 && allUpTo 1 fonts)
+    let k = unrefused (eqb (length wanted) 40 && eqb (length fonts) 40) (leb asked 39 && allUpTo 1 fonts)
     (onMove (c .users) || onSwitch (c .users)) (ltb room 104) c wanted e in
     let l = eqb-true _ _ (both (eqb (length wanted) 40) _ (k .lengths) .0) in
     let m : length fonts ≡ 40 = eqb-true _ _ (both (eqb (length wanted) 40) _ (k .lengths) .1) in

@@ -63,7 +63,7 @@ pub(crate) fn put_plan(
         × (now (out .exit) ≡ atStart (fontsPlan c (now (wanted .entry)) (now (fonts .entry)) asked) (now (out .entry))) ⌝ }
 {
     let codes = c.codes;
-    let shown = c.fonts;
+    let standing = c.fonts;
     let euro = c.euro;
     let mut p = c.cursor;
     let mut selected = c.font;
@@ -73,7 +73,7 @@ pub(crate) fn put_plan(
         let j = i as usize;
         let code = wanted[j];
         let font = fonts[j];
-        if differs(codes[j], shown[j], code, font) {
+        if differs(codes[j], standing[j], code, font) {
             let at = put_way(table, out, k, p, i);
             k = put_code(out, at, euro, selected, font, code);
             p = moves::next(i);

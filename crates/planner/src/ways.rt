@@ -1,4 +1,5 @@
 // The way from a place to another: the fewest move bytes, of equals the smallest by first differing byte.
+use condition::Condition;
 ghost use mathlib.Core.Path.{_≡_};
 ghost use Prim.Native.Nat.{_+_, _<_, _≤_};
 ghost use lib.ListN.{length};
@@ -20,7 +21,7 @@ fn go_left(p: u8) -> u8
     requires { ⌜ p < 40 ⌝ }
     ensures { λ r. ⌜ r ≡ left p ⌝ }
 {
-    if p % 20 == 0 {
+    if p % Condition::COLUMNS == 0 {
         return p;
     }
     p - 1
@@ -30,19 +31,19 @@ fn go_down(p: u8) -> u8
     requires { ⌜ p < 40 ⌝ }
     ensures { λ r. ⌜ r ≡ down p ⌝ }
 {
-    if p < 20 {
-        return p + 20;
+    if p < Condition::COLUMNS {
+        return p + Condition::COLUMNS;
     }
-    p - 20
+    p - Condition::COLUMNS
 }
 
 fn go_start(p: u8) -> u8
     ensures { λ r. ⌜ r ≡ lineStart p ⌝ }
 {
-    if p < 20 {
+    if p < Condition::COLUMNS {
         return 0;
     }
-    20
+    Condition::COLUMNS
 }
 
 fn go(m: u8, p: u8) -> u8

@@ -14,31 +14,31 @@ use borrow.Author.Needs.{needs}
 use Rattle.planner.proofs.plan.Statement.{statement}
 use Rattle.planner.proofs.plan.Tie as tie
 
--- Where no refusal is given ------------------------------------------------------------------------------------------------------
+-- Where no refusal is given -----------------------------------------------------------------------------------------------------
 
-abbrev None : tie.Else1 → Type 0
-None c =
+abbrev Unrefused : tie.Else1 → Type 0
+Unrefused c =
     let a = c .before .before .before .before .args in
     planRefusal (a .c) (a .wanted .now) (a .asked) (length (a .out .now)) ≡ 0
 
-none : (c : tie.Else1) → None c
-none c = sym (c .before .of-plan .ensures) ∙ c .if1 .left
+unrefused : (c : tie.Else1) → Unrefused c
+unrefused c = sym (c .before .of-plan .ensures) ∙ c .if1 .left
 
-abbrev Given : tie.Else1 → Type 0
-Given c =
+abbrev Accepts : tie.Else1 → Type 0
+Accepts c =
     let a = c .before .before .before .before .args in
     Accepted (a .c) (a .wanted .now) (a .asked) × (44 ≤ length (a .out .now))
 
-given : (c : tie.Else1) → Given c
-given c = accepted _ _ _ _ (none c)
+accepts : (c : tie.Else1) → Accepts c
+accepts c = accepted _ _ _ _ (unrefused c)
 
-abbrev Served : tie.Else1 → Type 0
-Served c =
+abbrev Delivered : tie.Else1 → Type 0
+Delivered c =
     let a = c .before .before .before .before .args in
     Delivers (a .c) (a .wanted .now) (a .asked) (plan (a .c) (a .wanted .now) (a .asked))
 
-served : (c : tie.Else1) → Served c
-served c = plan-delivers _ _ _ _ (none c) (search needs) (search needs)
+delivered : (c : tie.Else1) → Delivered c
+delivered c = plan-delivers _ _ _ _ (unrefused c) (search needs) (search needs)
 
 -- the bytes that are put are those of the plan in one font
 abbrev Same : tie.Else1 → Type 0
@@ -64,19 +64,19 @@ slice-aggregate-put-plan : tie.Need-slice-aggregate-put-plan
 slice-aggregate-put-plan c = search needs
 
 cast-put-plan : tie.Need-cast-put-plan
-cast-put-plan c = omega (arith, given (c .before .before .before) .0 .asked-40)
+cast-put-plan c = omega (arith, accepts (c .before .before .before) .0 .asked-40)
 
 put-plan-requires : tie.Need-put-plan-requires
 put-plan-requires c κs =
     let n = c .before .before .before .numbers .ensures .answer in
-    let t = given (c .before .before .before .before) in
+    let t = accepts (c .before .before .before .before) in
     let numbers = subst⁻¹ (λ (rows : List (List ℕ)). Numbers rows) n numbers-right in
     (t .0 .wanted-40, search needs, t .0 .cursor-40, t .0 .asked-40, plan-fits _ _ _ _ (t .1), numbers)
 
 cast-t15 : tie.Need-cast-t15
 cast-t15 c =
     let f = c .before .before .before .before .before .before .before in
-    omega (arith, c .before .before .put-plan .ensures .0, ap length (same f), served f .most)
+    omega (arith, c .before .before .put-plan .ensures .0, ap length (same f), delivered f .most)
 
 same-length : tie.Need-same-length
 same-length c = search needs
@@ -85,7 +85,7 @@ returns-2 : tie.Need-returns-2
 returns-2 c =
     let f = c .before .before .before .before .before .before .before in
     let p = c .before .before .put-plan .ensures in
-    taken-on _ _ _ _ _ _ (none f) (served f) (rw (← same f) (p .0)) (rw (← same f) (p .1))
+    taken-on _ _ _ _ _ _ (unrefused f) (delivered f) (rw (← same f) (p .0)) (rw (← same f) (p .1))
 
 pub plan-spec : {M : Type 1} → statement M
 plan-spec =

@@ -12,31 +12,31 @@ use borrow.Author.Needs.{needs}
 use Rattle.planner.proofs.plan_fonts.Statement.{statement}
 use Rattle.planner.proofs.plan_fonts.Tie as tie
 
--- Where no refusal is given ------------------------------------------------------------------------------------------------------
+-- Where no refusal is given -----------------------------------------------------------------------------------------------------
 
-abbrev None : tie.Else1 → Type 0
-None c =
+abbrev Unrefused : tie.Else1 → Type 0
+Unrefused c =
     let a = c .before .before .before .before .before .args in
     fontsRefusal (a .c) (a .wanted .now) (a .fonts .now) (a .asked) (length (a .out .now)) ≡ 0
 
-none : (c : tie.Else1) → None c
-none c = sym (c .before .of-fonts .ensures) ∙ c .if1 .left
+unrefused : (c : tie.Else1) → Unrefused c
+unrefused c = sym (c .before .of-fonts .ensures) ∙ c .if1 .left
 
-abbrev Given : tie.Else1 → Type 0
-Given c =
+abbrev Accepts : tie.Else1 → Type 0
+Accepts c =
     let a = c .before .before .before .before .before .args in
     FontsAccepted (a .c) (a .wanted .now) (a .fonts .now) (a .asked) × (104 ≤ length (a .out .now))
 
-given : (c : tie.Else1) → Given c
-given c = fonts-accepted _ _ _ _ _ (none c)
+accepts : (c : tie.Else1) → Accepts c
+accepts c = fonts-accepted _ _ _ _ _ (unrefused c)
 
-abbrev Served : tie.Else1 → Type 0
-Served c =
+abbrev Delivered : tie.Else1 → Type 0
+Delivered c =
     let a = c .before .before .before .before .before .args in
     FontsDelivers (a .c) (a .wanted .now) (a .fonts .now) (a .asked) (fontsPlan (a .c) (a .wanted .now) (a .fonts .now) (a .asked))
 
-served : (c : tie.Else1) → Served c
-served c = fonts-plan-delivers _ _ _ _ _ (none c) (search needs) (search needs)
+delivered : (c : tie.Else1) → Delivered c
+delivered c = fonts-plan-delivers _ _ _ _ _ (unrefused c) (search needs) (search needs)
 
 -- The needs -----------------------------------------------------------------------------------------------------------------------
 
@@ -50,18 +50,18 @@ numbers-requires : tie.Need-numbers-requires
 numbers-requires c κs = search needs
 
 cast-put-plan : tie.Need-cast-put-plan
-cast-put-plan c = omega (arith, given (c .before .before) .0 .codes .asked-40)
+cast-put-plan c = omega (arith, accepts (c .before .before) .0 .codes .asked-40)
 
 put-plan-requires : tie.Need-put-plan-requires
 put-plan-requires c κs =
-    let t = given (c .before .before .before) in
+    let t = accepts (c .before .before .before) in
     let u = t .0 .codes in
     let numbers = subst⁻¹ (λ (rows : List (List ℕ)). Numbers rows) (c .before .before .numbers .ensures .answer) numbers-right in
     (u .wanted-40, t .0 .fonts-40, u .cursor-40, u .asked-40, fonts-fit _ _ _ _ _ (t .0) (t .1), numbers)
 
 cast-t13 : tie.Need-cast-t13
 cast-t13 c =
-    omega (arith, c .before .before .put-plan .ensures .0, served (c .before .before .before .before .before .before) .most)
+    omega (arith, c .before .before .put-plan .ensures .0, delivered (c .before .before .before .before .before .before) .most)
 
 same-length : tie.Need-same-length
 same-length c = search needs
@@ -70,7 +70,7 @@ returns-2 : tie.Need-returns-2
 returns-2 c =
     let f = c .before .before .before .before .before .before in
     let p = c .before .before .put-plan .ensures in
-    taken-on _ _ _ _ _ _ (none f) (served f) (p .0) (p .1)
+    taken-on _ _ _ _ _ _ (unrefused f) (delivered f) (p .0) (p .1)
 
 pub plan-fonts-spec : {M : Type 1} → statement M
 plan-fonts-spec =

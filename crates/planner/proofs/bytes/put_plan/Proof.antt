@@ -10,11 +10,11 @@ use Rattle.planner.proofs.bytes.put_plan.Statement.{statement}
 use Rattle.planner.proofs.bytes.put_plan.Tie as tie
 
 abbrev Inv-loop : tie.InvT-loop
-Inv-loop table wanted fonts asked out₀ codes shown euro p₀ selected₀ k₀ i₀ out p selected k i =
-    Planning euro wanted fonts codes shown asked p₀ selected₀ out₀ out p selected k i
+Inv-loop table wanted fonts asked out₀ codes standing euro p₀ selected₀ k₀ i₀ out p selected k i =
+    Planning euro wanted fonts codes standing asked p₀ selected₀ out₀ out p selected k i
 
 abbrev μ-loop : tie.MeasureT-loop
-μ-loop table wanted fonts asked out₀ codes shown euro p₀ selected₀ k₀ i₀ out p selected k i = 40 - i
+μ-loop table wanted fonts asked out₀ codes standing euro p₀ selected₀ k₀ i₀ out p selected k i = 40 - i
 
 -- What is put is the plan ---------------------------------------------------------------------------------------------------------
 
