@@ -6,7 +6,7 @@ use Prim.Native.Nat.{ℕ, _<_}
 use native.Mathlib.Numerals.{add-one}
 use native.Mathlib.Omega.{arith}
 use lib.Dec.{eqb, leb}
-use borrow.Author.Tests.{eqb-true, eq-eqb, leb-true}
+use borrow.Author.Tests.{eqb-true, eq-eqb, leb-true, not-true}
 use Rattle.laws.proofs.Tests.{clash, both}
 use Rattle.users.specs.Users.{isUser}
 use Rattle.condition.specs.declared.Condition.{Condition}
@@ -73,10 +73,6 @@ owes escape = false
 owes place = false
 owes back = true
 
-no-char : (s t : Bool) → (not s && t) ≡ true → s ≡ false
-no-char true t x = sym x
-no-char false t x = refl
-
 module _ (switching : Bool) (c : Condition) (r : Ready c) where
   abbrev goes : Part → ℕ → ℕ → List ℕ → List ℕ → ℕ → Canvas
   goes k p f cs fs b = stepAt switching (c .euro) (isChar c) k p f cs fs b
@@ -120,7 +116,7 @@ module _ (switching : Bool) (c : Condition) (r : Ready c) where
       placed (withEuro (withFont (withCursor (withCells c cs fs) p) f) (c .euro)) b (r .still) (omega arith)
   same back p lo f cs fs b h m a =
       let d = stands c none p 0 cs fs in
-      let e : isChar c b ≡ false = no-char (isChar c b) _ a in
+      let e : isChar c b ≡ false = not-true _ (both (not (isChar c b)) _ a .0) in
       let y : b ≡ 0x1A = eqb-true b 0x1A (both (not (isChar c b)) _ a .1) in
       ap (λ (t : Bool). stepOf (withEuro d t) b) refl
       ∙ rw e (ap (λ (x : ℕ). controlOf (withEuro d false) x) y ∙ (λ i. withEuro d (sym (m refl .1) i)))
@@ -161,7 +157,7 @@ module _ (switching : Bool) (c : Condition) (r : Ready c) where
   next-low none p lo f cs fs b a = ap (λ (n : ℕ). cond (isChar c b) n lo) (add-one p)
   next-low escape p lo f cs fs b a = refl
   next-low place p lo f cs fs b a = refl
-  next-low back p lo f cs fs b a = rw (no-char (isChar c b) _ a)
+  next-low back p lo f cs fs b a = rw (not-true (isChar c b) (both (not (isChar c b)) _ a .0))
 
   embedded : c ≡ embed c (canvasOf c)
   embedded = λ i. withPending c (r .whole i)

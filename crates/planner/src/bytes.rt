@@ -10,10 +10,10 @@ ghost use Rattle.moves.specs.Moves.{Numbers};
 ghost use Rattle.planner.specs.Plan.{atStart};
 ghost use Rattle.planner.specs.Fonts.{wrongCell, switch, fontsPlan};
 
-fn differs(code: u8, font: u8, wanted: u8, selected: u8) -> bool
-    ensures { λ r. ⌜ r ≡ wrongCell code font wanted selected ⌝ }
+fn differs(code: u8, font: u8, code1: u8, font1: u8) -> bool
+    ensures { λ r. ⌜ r ≡ wrongCell code font code1 font1 ⌝ }
 {
-    !((code == wanted) & (font == selected))
+    !((code == code1) & (font == font1))
 }
 
 // Puts the switch from a font to another at k; answers the place behind it.
