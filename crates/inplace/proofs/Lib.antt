@@ -1,5 +1,5 @@
 pub mod Tests
 pub mod InPlace
-pub mod Ways
+pub mod Branches
 pub mod Running
 pub mod Carrying

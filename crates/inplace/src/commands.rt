@@ -5,6 +5,7 @@ ghost use lib.ListN.{length, getD};
 ghost use lib.Dec.{ltb};
 ghost use Rattle.condition.specs.Bytes.{leftOf, rightOf, downOf, returnOf, pushOf, writeOf, controlOf};
 ghost use Rattle.layout.specs.Layout.{conditionIn};
+ghost use Rattle.inplace.specs.InPlace.{settingOf, selectOf};
 use crate::cells::clear;
 use crate::cells::put;
 use crate::cells::scroll;
@@ -139,6 +140,37 @@ pub(crate) fn write(s: &mut [u8], b: u8)
     right(s);
 }
 
+// 18h to 1Bh; any other byte is ignored.
+fn select(s: &mut [u8], b: u8)
+    requires { ⌜ 200 ≤ length (now s) ⌝ }
+    ensures { λ _. ⌜ conditionIn (now (s .exit)) ≡ selectOf (conditionIn (now (s .entry))) b ⌝ }
+{
+    match b {
+        0x18 => international(s),
+        0x19 => katakana(s),
+        0x1A => euro_on(s),
+        0x1B => set_pending(s, 1, 0, 0),
+        _ => {}
+    }
+}
+
+// 11h to 17h, and what select does.
+fn setting(s: &mut [u8], b: u8)
+    requires { ⌜ 200 ≤ length (now s) ⌝ }
+    ensures { λ _. ⌜ conditionIn (now (s .exit)) ≡ settingOf (conditionIn (now (s .entry))) b ⌝ }
+{
+    match b {
+        0x11 => set_mode(s, 1),
+        0x12 => set_mode(s, 2),
+        0x13 => set_mode(s, 3),
+        0x14 => set_shown(s, 0),
+        0x15 => set_shown(s, 1),
+        0x16 => set_shown(s, 0),
+        0x17 => set_shown(s, 0),
+        _ => select(s, b),
+    }
+}
+
 // Any other byte; those that are not named are ignored.
 pub(crate) fn control(s: &mut [u8], b: u8)
     requires { ⌜ (200 ≤ length (now s)) × (getD (now s) 3 0 < 40) ⌝ }
@@ -152,17 +184,6 @@ pub(crate) fn control(s: &mut [u8], b: u8)
         0x0D => carriage_return(s),
         0x0E => clear(s),
         0x0F => clear(s),
-        0x11 => set_mode(s, 1),
-        0x12 => set_mode(s, 2),
-        0x13 => set_mode(s, 3),
-        0x14 => set_shown(s, 0),
-        0x15 => set_shown(s, 1),
-        0x16 => set_shown(s, 0),
-        0x17 => set_shown(s, 0),
-        0x18 => international(s),
-        0x19 => katakana(s),
-        0x1A => euro_on(s),
-        0x1B => set_pending(s, 1, 0, 0),
-        _ => {}
+        _ => setting(s, b),
     }
 }

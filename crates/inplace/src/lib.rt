@@ -2,15 +2,15 @@
 ghost use mathlib.Core.Path.{_≡_};
 ghost use Rattle.inplace.specs.Carry.{untouchedOf, afterOf};
 use condition::Condition;
-use turn::run_in;
+use run::run_in;
 
 mod busy;
 mod cells;
-mod chars;
+mod characters;
 mod commands;
 mod fields;
-mod half;
-mod turn;
+mod parameters;
+mod run;
 
 // The most bytes that are taken.
 const MOST_BYTES: usize = 32768;

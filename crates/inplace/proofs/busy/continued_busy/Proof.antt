@@ -1,6 +1,6 @@
 use Rattle.condition.specs.Busy.{figureAt}
 use Rattle.inplace.proofs.InPlace.{pending-at}
-use Rattle.inplace.proofs.Ways.{awaits-data}
+use Rattle.inplace.proofs.Branches.{awaits-data}
 use borrow.Author.Tests.{le-ltb, lt-ltb}
 use borrow.Author.Needs.{needs}
 use Rattle.inplace.proofs.busy.continued_busy.Statement.{statement}

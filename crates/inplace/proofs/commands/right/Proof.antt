@@ -1,7 +1,7 @@
 use mathlib.Core.Path.{_∙_, ap}
 use Rattle.condition.specs.declared.Condition.{Condition}
 use Rattle.condition.specs.Set.{withCursor}
-use Rattle.inplace.proofs.Ways.{right-one, right-stays, right-next, right-home, right-scroll}
+use Rattle.inplace.proofs.Branches.{right-one, right-stays, right-next, right-home, right-scroll}
 use borrow.Author.Needs.{needs}
 use Rattle.inplace.proofs.commands.right.Statement.{statement}
 use Rattle.inplace.proofs.commands.right.Tie as tie

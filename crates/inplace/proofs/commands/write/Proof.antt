@@ -2,7 +2,7 @@ use mathlib.Core.Path.{_≡_, _∙_, ap}
 use lib.ListN.{getD}
 use Rattle.condition.specs.Bytes.{rightOf}
 use Rattle.inplace.proofs.InPlace.{cursor-at, cursor-by}
-use Rattle.inplace.proofs.Ways.{write-inner, write-edge, write-on}
+use Rattle.inplace.proofs.Branches.{write-inner, write-edge, write-on}
 use borrow.Author.Needs.{needs}
 use Rattle.inplace.proofs.commands.write.Statement.{statement}
 use Rattle.inplace.proofs.commands.write.Tie as tie

@@ -1,7 +1,7 @@
 use Rattle.inplace.proofs.InPlace.{define-by}
 use borrow.Author.Needs.{needs}
-use Rattle.inplace.proofs.chars.define.Statement.{statement}
-use Rattle.inplace.proofs.chars.define.Tie as tie
+use Rattle.inplace.proofs.characters.define.Statement.{statement}
+use Rattle.inplace.proofs.characters.define.Tie as tie
 
 slice-read-n : tie.Need-slice-read-n
 slice-read-n c = search needs

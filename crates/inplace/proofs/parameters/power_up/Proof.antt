@@ -1,8 +1,8 @@
 use Rattle.condition.specs.Condition.{powerUp}
 use Rattle.inplace.proofs.InPlace.{link-at}
 use borrow.Author.Needs.{needs}
-use Rattle.inplace.proofs.half.power_up.Statement.{statement}
-use Rattle.inplace.proofs.half.power_up.Tie as tie
+use Rattle.inplace.proofs.parameters.power_up.Statement.{statement}
+use Rattle.inplace.proofs.parameters.power_up.Tie as tie
 
 slice-read-link : tie.Need-slice-read-link
 slice-read-link c = search needs

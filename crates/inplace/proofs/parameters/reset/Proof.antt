@@ -1,7 +1,7 @@
 use Rattle.inplace.proofs.InPlace.{reset-by}
 use borrow.Author.Needs.{needs}
-use Rattle.inplace.proofs.half.reset.Statement.{statement}
-use Rattle.inplace.proofs.half.reset.Tie as tie
+use Rattle.inplace.proofs.parameters.reset.Statement.{statement}
+use Rattle.inplace.proofs.parameters.reset.Tie as tie
 
 sub-copy : tie.Need-sub-copy
 sub-copy c = search needs

@@ -1,8 +1,8 @@
 use Rattle.users.specs.Users.{isUser}
 use Rattle.layout.specs.Layout.{conditionIn}
 use borrow.Author.Needs.{needs}
-use Rattle.inplace.proofs.chars.is_user.Statement.{statement}
-use Rattle.inplace.proofs.chars.is_user.Tie as tie
+use Rattle.inplace.proofs.characters.is_user.Statement.{statement}
+use Rattle.inplace.proofs.characters.is_user.Tie as tie
 
 shared-slice-read-n : tie.Need-shared-slice-read-n
 shared-slice-read-n c = search needs

@@ -1,7 +1,7 @@
 use Rattle.inplace.proofs.InPlace.{forget-by}
 use borrow.Author.Needs.{needs}
-use Rattle.inplace.proofs.chars.forget.Statement.{statement}
-use Rattle.inplace.proofs.chars.forget.Tie as tie
+use Rattle.inplace.proofs.characters.forget.Statement.{statement}
+use Rattle.inplace.proofs.characters.forget.Tie as tie
 
 sub-clear : tie.Need-sub-clear
 sub-clear c = search needs

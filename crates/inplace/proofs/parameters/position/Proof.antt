@@ -2,8 +2,8 @@ use Rattle.condition.specs.Bytes.{positionOf}
 use Rattle.inplace.proofs.InPlace.{cursor-at, mode-at, scrolling-at}
 use borrow.Author.Tests.{le-leb, lt-leb}
 use borrow.Author.Needs.{needs}
-use Rattle.inplace.proofs.half.position.Statement.{statement}
-use Rattle.inplace.proofs.half.position.Tie as tie
+use Rattle.inplace.proofs.parameters.position.Statement.{statement}
+use Rattle.inplace.proofs.parameters.position.Tie as tie
 
 set-pending-requires : tie.Need-set-pending-requires
 set-pending-requires c κs = search needs

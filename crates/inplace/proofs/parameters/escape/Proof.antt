@@ -1,8 +1,8 @@
 use Rattle.condition.specs.Bytes.{escapeOf}
 use Rattle.inplace.proofs.Tests.{tests}
 use borrow.Author.Needs.{needs}
-use Rattle.inplace.proofs.half.escape.Statement.{statement}
-use Rattle.inplace.proofs.half.escape.Tie as tie
+use Rattle.inplace.proofs.parameters.escape.Statement.{statement}
+use Rattle.inplace.proofs.parameters.escape.Tie as tie
 
 set-pending-requires : tie.Need-set-pending-requires
 set-pending-requires c κs = search needs

@@ -1,10 +1,10 @@
 use Rattle.condition.specs.Bytes.{stepAt}
 use Rattle.condition.specs.declared.Pending.the-variants.{Escape, Position, Luminance, Speed, UserCode}
 use mathlib.Core.Path.{_∙_}
-use Rattle.inplace.proofs.Ways.{half-step, awaits-data, data-step}
+use Rattle.inplace.proofs.Branches.{half-step, awaits-data, data-step}
 use borrow.Author.Needs.{needs}
-use Rattle.inplace.proofs.half.continued.Statement.{statement}
-use Rattle.inplace.proofs.half.continued.Tie as tie
+use Rattle.inplace.proofs.parameters.continued.Statement.{statement}
+use Rattle.inplace.proofs.parameters.continued.Tie as tie
 
 slice-read-kind : tie.Need-slice-read-kind
 slice-read-kind c = search needs

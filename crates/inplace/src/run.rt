@@ -12,10 +12,10 @@ ghost use Rattle.inplace.specs.InPlace.{Stepped, Carried};
 use crate::busy::continued_busy;
 use crate::busy::control_busy;
 use crate::busy::write_busy;
-use crate::chars::is_user;
+use crate::characters::is_user;
 use crate::commands::control;
 use crate::commands::write;
-use crate::half::continued;
+use crate::parameters::continued;
 use layout::FLICKERLESS;
 use layout::KIND;
 

@@ -1,8 +1,8 @@
 use Rattle.condition.specs.Bytes.{dataOf}
 use borrow.Author.Tests.{le-ltb, lt-ltb}
 use borrow.Author.Needs.{needs}
-use Rattle.inplace.proofs.half.user_data.Statement.{statement}
-use Rattle.inplace.proofs.half.user_data.Tie as tie
+use Rattle.inplace.proofs.parameters.user_data.Statement.{statement}
+use Rattle.inplace.proofs.parameters.user_data.Tie as tie
 
 hold-requires : tie.Need-hold-requires
 hold-requires c κs = search needs

@@ -5,8 +5,8 @@ use borrow.Author.Needs.{needs}
 use lib.ListN.{length}
 use Rattle.layout.specs.Layout.{conditionIn}
 use Rattle.inplace.proofs.Running.{Going, going-starts, going-place, going-turns, going-ends, step-most}
-use Rattle.inplace.proofs.turn.run_in.Statement.{statement}
-use Rattle.inplace.proofs.turn.run_in.Tie as tie
+use Rattle.inplace.proofs.run.run_in.Statement.{statement}
+use Rattle.inplace.proofs.run.run_in.Tie as tie
 
 abbrev Inv-loop : tie.InvT-loop
 Inv-loop s₀ bytes busy₀ flickerless₀ i₀ s busy flickerless i =

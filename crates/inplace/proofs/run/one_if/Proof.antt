@@ -1,7 +1,7 @@
 use native.Mathlib.Omega.{arith}
 use borrow.Author.Tests.{eq-eqb, ne-eqb}
-use Rattle.inplace.proofs.turn.one_if.Statement.{statement}
-use Rattle.inplace.proofs.turn.one_if.Tie as tie
+use Rattle.inplace.proofs.run.one_if.Statement.{statement}
+use Rattle.inplace.proofs.run.one_if.Tie as tie
 
 returns : tie.Need-returns
 returns c = (simp (eq-eqb _ _ (c .if1 .taken)), omega arith)

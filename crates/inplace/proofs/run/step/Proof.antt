@@ -1,7 +1,7 @@
-use Rattle.inplace.proofs.Ways.{plain-char, user-char, no-char, char-step, control-step}
+use Rattle.inplace.proofs.Branches.{plain-char, user-char, no-char, char-step, control-step}
 use borrow.Author.Needs.{needs}
-use Rattle.inplace.proofs.turn.step.Statement.{statement}
-use Rattle.inplace.proofs.turn.step.Tie as tie
+use Rattle.inplace.proofs.run.step.Statement.{statement}
+use Rattle.inplace.proofs.run.step.Tie as tie
 
 slice-read-kind : tie.Need-slice-read-kind
 slice-read-kind c = search needs
