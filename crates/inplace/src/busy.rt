@@ -5,6 +5,7 @@ ghost use lib.ListN.{length, getD};
 ghost use Rattle.condition.specs.Busy.{rightScrolls, downScrolls, lineShifts, writeBusy, controlBusy, escapeBusy, figureOf};
 ghost use Rattle.layout.specs.Layout.{conditionIn};
 use crate::commands::below_19;
+use condition::Condition;
 use layout::CURSOR;
 use layout::HOLDS;
 use layout::KIND;
@@ -28,7 +29,7 @@ fn down_scrolls(s: &[u8]) -> bool
     ensures { λ r. ⌜ r ≡ downScrolls (conditionIn (now (s .entry))) ⌝ }
 {
     if s[MODE] == 2 {
-        return 20 <= s[CURSOR];
+        return Condition::COLUMNS <= s[CURSOR];
     }
     false
 }

@@ -19,6 +19,7 @@ use crate::fields::set_mode;
 use crate::fields::set_pending;
 use crate::fields::set_scrolling;
 use crate::fields::set_shown;
+use condition::Condition;
 use layout::CURSOR;
 use layout::MODE;
 use layout::SCROLLING;
@@ -29,7 +30,7 @@ fn left(s: &mut [u8])
     ensures { λ _. ⌜ conditionIn (now (s .exit)) ≡ leftOf (conditionIn (now (s .entry))) ⌝ }
 {
     let x = s[CURSOR];
-    if x % 20 == 0 {
+    if x % Condition::COLUMNS == 0 {
         go_to(s, x)
     } else {
         go_to(s, x - 1)
@@ -80,12 +81,12 @@ fn down(s: &mut [u8])
 {
     let x = s[CURSOR];
     let m = s[MODE];
-    if x < 20 {
-        go_to(s, x + 20);
+    if x < Condition::COLUMNS {
+        go_to(s, x + Condition::COLUMNS);
         return;
     }
     if m == 1 {
-        go_to(s, x - 20);
+        go_to(s, x - Condition::COLUMNS);
         return;
     }
     if m == 2 {
@@ -102,7 +103,11 @@ fn carriage_return(s: &mut [u8])
     ensures { λ _. ⌜ conditionIn (now (s .exit)) ≡ returnOf (conditionIn (now (s .entry))) ⌝ }
 {
     let x = s[CURSOR];
-    if x < 20 { go_to(s, 0) } else { go_to(s, 20) }
+    if x < Condition::COLUMNS {
+        go_to(s, 0)
+    } else {
+        go_to(s, Condition::COLUMNS)
+    }
 }
 
 // A character in mode 3 at column 19.

@@ -22,7 +22,8 @@ use layout::KIND;
 // A character is written; the answer is its busy figure.
 fn character(s: &mut [u8], b: u8) -> u8
     requires { ⌜ (200 ≤ length (now s)) × (getD (now s) 3 0 < 40) ⌝ }
-    ensures { λ r. ⌜ (conditionIn (now (s .exit)) ≡ writeOf (conditionIn (now (s .entry))) b) × (r ≡ writeBusy (conditionIn (now (s .entry)))) ⌝ }
+    ensures { λ r. ⌜ (conditionIn (now (s .exit)) ≡ writeOf (conditionIn (now (s .entry))) b)
+        × (r ≡ writeBusy (conditionIn (now (s .entry)))) ⌝ }
 {
     let figure = write_busy(s);
     write(s, b);
@@ -66,7 +67,8 @@ pub(crate) struct Spent {
 // What bytes do, in turn.
 pub(crate) fn run_in(s: &mut [u8], bytes: &[u8]) -> Spent
     requires { ⌜ (200 ≤ length (now s)) × (wellFormed (conditionIn (now s)) ≡ true) × (length (now bytes) ≤ 32768) ⌝ }
-    ensures { λ r. ⌜ Carried (conditionIn (now (s .entry))) (now (bytes .entry)) (conditionIn (now (s .exit))) (r .busy) (r .flickerless) ⌝ }
+    ensures { λ r. ⌜ Carried (conditionIn (now (s .entry))) (now (bytes .entry))
+        (conditionIn (now (s .exit))) (r .busy) (r .flickerless) ⌝ }
 {
     let mut busy: u32 = 0;
     let mut flickerless: u32 = 0;
