@@ -1,4 +1,4 @@
--- Each way through a command, from what its tests tell.
+-- Each branch of a command, from what its tests tell.
 use Prim.Native.Nat.{ℕ, _+_, _%_, _≤_, _<_}
 use mathlib.Core.Path.{_≡_, sym, _∙_}
 use mathlib.Core.List.{List}
@@ -57,7 +57,8 @@ module _ (s : List ℕ) (r : Bool) (at : r ≡ ltb (getD s 3 0 % 20) 19) where
     write-edge e = rw (cursor-at s, edge-column (getD s 3 0) (sym at ∙ e), mode-at s, eq-eqb _ _ m)
 
 -- a write in mode 1 or 2
-pub write-on : (s : List ℕ) (b : ℕ) → (getD s 4 0 ≡ 3 → ⊥) → rightOf (withCell (conditionIn s) (getD s 3 0) b) ≡ writeOf (conditionIn s) b
+pub write-on : (s : List ℕ) (b : ℕ) → (getD s 4 0 ≡ 3 → ⊥)
+    → rightOf (withCell (conditionIn s) (getD s 3 0) b) ≡ writeOf (conditionIn s) b
 unfolding writeOf
 write-on s b m = rw (cursor-at s, mode-at s, ne-eqb _ _ m)
 

@@ -1,13 +1,13 @@
 -- What carrying bytes out answers.
 use Prim.Native.Nat.{ℕ, _≤_, _<_}
 use mathlib.Core.Path.{_≡_, refl, sym, ap, _∙_}
-use mathlib.Core.Bool.{Bool, true, false, cond, not}
+use mathlib.Core.Bool.{true, false, cond, not}
 use mathlib.Core.List.{List}
 use native.Mathlib.Omega.{arith}
 use lib.Dec.{eqb, ltb}
 use lib.ListN.{length}
-use borrow.Author.Tests.{eqb-true, eq-eqb, ne-eqb, lt-ltb, le-ltb, ltb-false}
-use Rattle.laws.proofs.Tests.{by-test}
+use borrow.Author.Tests.{eqb-true, eq-eqb, ne-eqb, lt-ltb, le-ltb, ltb-false, not-false}
+use Rattle.laws.proofs.Tests.{by-test, passed}
 use Rattle.condition.specs.declared.Condition.{Condition}
 use Rattle.condition.specs.Condition.{wellFormed}
 use Rattle.condition.proofs.Good.{Sized}
@@ -57,18 +57,19 @@ module _ (c : Condition) (bs : List ℕ) (r : After) where
   unfolding afterOf
   taken e z =
       let f : r ≡ carriedOf c bs = e ∙ rw (eq-eqb (carryRefusal c bs) 0 (sym (refusal-is e) ∙ z)) in
-      record { leaves = ap (λ (a : After). a .condition) f; takes = ap (λ (a : After). a .busy) f; flickers = ap (λ (a : After). a .flickerless) f }
+      record {
+        leaves = ap (λ (a : After). a .condition) f;
+        takes = ap (λ (a : After). a .busy) f;
+        flickers = ap (λ (a : After). a .flickerless) f;
+      }
 
 -- what is carried out is well formed and not too long
 pub accepts : (c : Condition) (bs : List ℕ) → carryRefusal c bs ≡ 0 → (wellFormed c ≡ true) × (length bs ≤ 32768)
 unfolding carryRefusal
-accepts c bs e = go (wellFormed c) refl (ltb 32768 (length bs)) refl e
-  where
-    go : (w : Bool) → wellFormed c ≡ w → (l : Bool) → ltb 32768 (length bs) ≡ l → _≡_ {A = ℕ} (cond (not w) 3 (cond l 4 0)) 0
-        → (wellFormed c ≡ true) × (length bs ≤ 32768)
-    go true ew false el f = (ew, omega (arith, ltb-false 32768 (length bs) el))
-    go true ew true el f = absurd (let z : _≡_ {A = ℕ} 4 0 = f in omega arith)
-    go false ew l el f = absurd (let z : _≡_ {A = ℕ} 3 0 = f in omega arith)
+accepts c bs e =
+    let long = ltb 32768 (length bs) in
+    let p = passed (not (wellFormed c)) 2 (cond long 4 0) e in
+    (not-false (wellFormed c) (p .0), omega (arith, ltb-false 32768 (length bs) (passed long 3 0 (p .1) .0)))
 
 -- two answers that the contract allows are the same
 pub one-carrying : (c : Condition) (bs : List ℕ) (r s : After) → r ≡ afterOf c bs → s ≡ afterOf c bs → r ≡ s

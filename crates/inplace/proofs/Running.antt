@@ -12,7 +12,8 @@ use Rattle.condition.specs.Bytes.{runOf}
 use Rattle.condition.specs.Busy.{busyOf, one, flickerlessOf}
 use Rattle.condition.proofs.Good.{good}
 use Rattle.condition.proofs.Kept.{step-kept}
-use Rattle.condition.proofs.Pieces.{run-turn, busy-turn, flickerless-turn, run-ended, busy-ended, flickerless-ended, figure-most, one-most}
+use Rattle.condition.proofs.Pieces.{run-turn, busy-turn, flickerless-turn, run-ended, busy-ended, flickerless-ended}
+use Rattle.condition.proofs.Pieces.{figure-most, one-most}
 use Rattle.layout.specs.Layout.{conditionIn}
 use Rattle.layout.proofs.PackedBack.{sized-in}
 use Rattle.inplace.specs.InPlace.{Stepped, Carried}

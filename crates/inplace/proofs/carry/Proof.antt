@@ -25,7 +25,8 @@ untouched-requires : tie.Need-untouched-requires
 untouched-requires c κs = search needs
 
 returns : tie.Need-returns
-returns c = not-formed _ _ _ (sym (c .before .before .well-formed .ensures) ∙ not-true _ (c .before .if1 .taken)) (c .untouched .ensures)
+returns c =
+    not-formed _ _ _ (sym (c .before .before .well-formed .ensures) ∙ not-true _ (c .before .if1 .taken)) (c .untouched .ensures)
 
 untouched-requires-2 : tie.Need-untouched-requires-2
 untouched-requires-2 c κs = search needs

@@ -39,13 +39,21 @@ returns-6 : tie.Need-returns-6
 unfolding figureAt
 returns-6 c =
     let r = c .before .match .rest in
-    rw (pending-at, awaits-data _ _ _ (search needs) (r .0 .0 .0 .0 .1) (r .0 .0 .0 .1) (r .0 .0 .1) (r .0 .1) (r .1), lt-ltb _ _ (c .if1 .taken))
+    rw (
+      pending-at,
+      awaits-data _ _ _ (search needs) (r .0 .0 .0 .0 .1) (r .0 .0 .0 .1) (r .0 .0 .1) (r .0 .1) (r .1),
+      lt-ltb _ _ (c .if1 .taken),
+    )
 
 returns-7 : tie.Need-returns-7
 unfolding figureAt
 returns-7 c =
     let r = c .before .match .rest in
-    rw (pending-at, awaits-data _ _ _ (search needs) (r .0 .0 .0 .0 .1) (r .0 .0 .0 .1) (r .0 .0 .1) (r .0 .1) (r .1), le-ltb _ _ (c .if1 .left))
+    rw (
+      pending-at,
+      awaits-data _ _ _ (search needs) (r .0 .0 .0 .0 .1) (r .0 .0 .0 .1) (r .0 .0 .1) (r .0 .1) (r .1),
+      le-ltb _ _ (c .if1 .left),
+    )
 
 pub continued-busy-spec : {M : Type 1} → statement M
 continued-busy-spec =

@@ -19,14 +19,22 @@ below-19-requires c κs = search needs
 
 returns : tie.Need-returns
 unfolding lineShifts
-returns c = simp (cursor-at, mode-at, scrolling-at, eq-eqb _ _ (c .before .before .before .if1 .taken), inner-column (getD (c .before .before .before .before .before .before .args .s .now) 3 0) (sym (c .before .below-19 .ensures) ∙ c .if2 .taken))
+returns c =
+    let t = c .before .before .before in
+    let x = getD (t .before .before .before .args .s .now) 3 0 in
+    let column = inner-column x (sym (c .before .below-19 .ensures) ∙ c .if2 .taken) in
+    simp (cursor-at, mode-at, scrolling-at, eq-eqb _ _ (t .if1 .taken), column)
 
 shared-slice-read-result : tie.Need-shared-slice-read-result
 shared-slice-read-result c = search needs
 
 returns-2 : tie.Need-returns-2
 unfolding lineShifts
-returns-2 c = simp (cursor-at, mode-at, scrolling-at, eq-eqb _ _ (c .before .before .before .before .if1 .taken), edge-column (getD (c .before .before .before .before .before .before .before .args .s .now) 3 0) (sym (c .before .before .below-19 .ensures) ∙ c .before .if2 .left))
+returns-2 c =
+    let t = c .before .before .before .before in
+    let x = getD (t .before .before .before .args .s .now) 3 0 in
+    let column = edge-column x (sym (c .before .before .below-19 .ensures) ∙ c .before .if2 .left) in
+    simp (cursor-at, mode-at, scrolling-at, eq-eqb _ _ (t .if1 .taken), column)
 
 returns-3 : tie.Need-returns-3
 unfolding lineShifts

@@ -16,11 +16,15 @@ line-shifts-requires c κs = search needs
 
 returns-2 : tie.Need-returns-2
 unfolding writeBusy
-returns-2 c = simp (sym (c .before .line-shifts .ensures) ∙ c .if2 .taken, sym (c .before .before .before .right-scrolls .ensures) ∙ c .before .before .if1 .left)
+returns-2 c =
+    let t = c .before .before in
+    simp (sym (c .before .line-shifts .ensures) ∙ c .if2 .taken, sym (t .before .right-scrolls .ensures) ∙ t .if1 .left)
 
 returns-3 : tie.Need-returns-3
 unfolding writeBusy
-returns-3 c = simp (sym (c .before .line-shifts .ensures) ∙ c .if2 .left, sym (c .before .before .before .right-scrolls .ensures) ∙ c .before .before .if1 .left)
+returns-3 c =
+    let t = c .before .before in
+    simp (sym (c .before .line-shifts .ensures) ∙ c .if2 .left, sym (t .before .right-scrolls .ensures) ∙ t .if1 .left)
 
 pub write-busy-spec : {M : Type 1} → statement M
 write-busy-spec =

@@ -18,7 +18,9 @@ same-length c = search needs
 
 returns : tie.Need-returns
 unfolding clearOf
-returns c = rw (c .before .before .set-scrolling .ensures, c .before .before .before .before .before .before .blank .ensures) (simp font-at)
+returns c =
+    rw (c .before .before .set-scrolling .ensures, c .before .before .before .before .before .before .blank .ensures)
+    (simp font-at)
 
 pub clear-spec : {M : Type 1} → statement M
 clear-spec =

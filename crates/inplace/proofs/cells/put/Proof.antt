@@ -42,7 +42,8 @@ unfolding conditionIn
 returns c =
     let a = c .before .before .before .before .before .before .before .before .before .before .args in
     cells-by (λ (l : List ℕ). set l (a .at) (a .b)) (λ (l : List ℕ). set l (a .at) (getD (a .s .now) 7 0)) (a .s .now) _ _
-    (search needs) (search needs) (search needs) (c .before .before .before .before .before .before .put .ensures) (c .before .before .put2 .ensures)
+    (search needs) (search needs) (search needs)
+    (c .before .before .before .before .before .before .put .ensures) (c .before .before .put2 .ensures)
 
 pub put-spec : {M : Type 1} → statement M
 put-spec =

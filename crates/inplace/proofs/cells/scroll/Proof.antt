@@ -42,7 +42,8 @@ unfolding conditionIn scrollOf
 returns c =
     let s = c .before .before .before .before .before .before .before .before .before .before .args .s .now in
     pictures-by (scrolled 0x20) (scrolled (getD s 7 0)) s _ _
-    (search needs) (search needs) (search needs) (c .before .before .before .before .before .before .scroll .ensures) (c .before .before .scroll2 .ensures)
+    (search needs) (search needs) (search needs)
+    (c .before .before .before .before .before .before .scroll .ensures) (c .before .before .scroll2 .ensures)
 
 pub scroll-spec : {M : Type 1} → statement M
 scroll-spec =

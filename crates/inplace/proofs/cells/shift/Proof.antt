@@ -45,7 +45,8 @@ returns c =
     let a = c .before .before .before .before .before .before .before .before .before .before .before .args in
     let s = a .s .now in
     pictures-by (shifted (lineStart (getD s 3 0)) (a .b)) (shifted (lineStart (getD s 3 0)) (getD s 7 0)) s _ _
-    (search needs) (search needs) (search needs) (c .before .before .before .before .before .before .shift .ensures) (c .before .before .shift2 .ensures)
+    (search needs) (search needs) (search needs)
+    (c .before .before .before .before .before .before .shift .ensures) (c .before .before .shift2 .ensures)
 
 pub shift-spec : {M : Type 1} → statement M
 shift-spec =

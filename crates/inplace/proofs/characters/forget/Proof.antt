@@ -20,7 +20,8 @@ same-length c = search needs
 
 returns : tie.Need-returns
 returns c =
-    forget-by (c .before .before .before .before .before .args .s .now) _ (search needs) (search needs) (c .before .before .clear .ensures)
+    let s = c .before .before .before .before .before .args .s .now in
+    forget-by s _ (search needs) (search needs) (c .before .before .clear .ensures)
 
 pub forget-spec : {M : Type 1} → statement M
 forget-spec =

@@ -20,14 +20,18 @@ same-length c = search needs
 
 returns : tie.Need-returns
 unfolding returnOf lineStart
-returns c = rw (c .before .before .go-to .ensures) (simp (cursor-at, mode-at, lt-ltb _ _ (c .before .before .before .before .if1 .taken)))
+returns c =
+    let t = c .before .before .before .before in
+    rw (c .before .before .go-to .ensures) (simp (cursor-at, mode-at, lt-ltb _ _ (t .if1 .taken)))
 
 same-length-2 : tie.Need-same-length-2
 same-length-2 c = search needs
 
 returns-2 : tie.Need-returns-2
 unfolding returnOf lineStart
-returns-2 c = rw (c .before .before .go-to2 .ensures) (simp (cursor-at, mode-at, le-ltb _ _ (c .before .before .before .before .if1 .left)))
+returns-2 c =
+    let t = c .before .before .before .before in
+    rw (c .before .before .go-to2 .ensures) (simp (cursor-at, mode-at, le-ltb _ _ (t .if1 .left)))
 
 pub carriage-return-spec : {M : Type 1} → statement M
 carriage-return-spec =

@@ -22,7 +22,9 @@ same-length c = search needs
 
 returns : tie.Need-returns
 unfolding downOf
-returns c = rw (c .before .before .go-to .ensures) (simp (cursor-at, mode-at, lt-ltb _ _ (c .before .before .before .before .if1 .taken)))
+returns c =
+    let t = c .before .before .before .before in
+    rw (c .before .before .go-to .ensures) (simp (cursor-at, mode-at, lt-ltb _ _ (t .if1 .taken)))
 
 go-to-requires-2 : tie.Need-go-to-requires-2
 go-to-requires-2 c κs = search needs
@@ -32,7 +34,10 @@ same-length-2 c = search needs
 
 returns-2 : tie.Need-returns-2
 unfolding downOf
-returns-2 c = rw (c .before .before .go-to2 .ensures) (simp (cursor-at, mode-at, eq-eqb _ _ (c .before .before .before .before .if2 .taken), le-ltb _ _ (c .before .before .before .before .before .if1 .left)))
+returns-2 c =
+    let t = c .before .before .before .before in
+    rw (c .before .before .go-to2 .ensures)
+    (simp (cursor-at, mode-at, eq-eqb _ _ (t .if2 .taken), le-ltb _ _ (t .before .if1 .left)))
 
 scroll-requires : tie.Need-scroll-requires
 scroll-requires c κs = search needs
@@ -45,7 +50,12 @@ same-length-3 c = search needs
 
 returns-3 : tie.Need-returns-3
 unfolding downOf
-returns-3 c = rw (c .before .before .set-scrolling .ensures, c .before .before .before .before .before .before .scroll .ensures) (simp (cursor-at, mode-at, eq-eqb _ _ (c .before .before .before .before .before .before .before .before .if3 .taken), ne-eqb _ _ (c .before .before .before .before .before .before .before .before .before .if2 .left), le-ltb _ _ (c .before .before .before .before .before .before .before .before .before .before .if1 .left)))
+returns-3 c =
+    let k = c .before .before .before .before .before .before in
+    let t = k .before .before in
+    let u = t .before in
+    rw (c .before .before .set-scrolling .ensures, k .scroll .ensures)
+    (simp (cursor-at, mode-at, eq-eqb _ _ (t .if3 .taken), ne-eqb _ _ (u .if2 .left), le-ltb _ _ (u .before .if1 .left)))
 
 set-scrolling-requires-2 : tie.Need-set-scrolling-requires-2
 set-scrolling-requires-2 c κs = search needs
@@ -55,7 +65,11 @@ same-length-4 c = search needs
 
 returns-4 : tie.Need-returns-4
 unfolding downOf
-returns-4 c = rw (c .before .before .set-scrolling2 .ensures) (simp (cursor-at, mode-at, ne-eqb _ _ (c .before .before .before .before .if3 .left), ne-eqb _ _ (c .before .before .before .before .before .if2 .left), le-ltb _ _ (c .before .before .before .before .before .before .if1 .left)))
+returns-4 c =
+    let t = c .before .before .before .before in
+    let u = t .before in
+    rw (c .before .before .set-scrolling2 .ensures)
+    (simp (cursor-at, mode-at, ne-eqb _ _ (t .if3 .left), ne-eqb _ _ (u .if2 .left), le-ltb _ _ (u .before .if1 .left)))
 
 pub down-spec : {M : Type 1} → statement M
 down-spec =

@@ -22,14 +22,18 @@ same-length c = search needs
 
 returns : tie.Need-returns
 unfolding leftOf
-returns c = rw (c .before .before .go-to .ensures) (simp (cursor-at, mode-at, eq-eqb _ _ (c .before .before .before .before .if1 .taken)))
+returns c =
+    let t = c .before .before .before .before in
+    rw (c .before .before .go-to .ensures) (simp (cursor-at, mode-at, eq-eqb _ _ (t .if1 .taken)))
 
 same-length-2 : tie.Need-same-length-2
 same-length-2 c = search needs
 
 returns-2 : tie.Need-returns-2
 unfolding leftOf
-returns-2 c = rw (c .before .before .go-to2 .ensures) (simp (cursor-at, mode-at, ne-eqb _ _ (c .before .before .before .before .if1 .left)))
+returns-2 c =
+    let t = c .before .before .before .before in
+    rw (c .before .before .go-to2 .ensures) (simp (cursor-at, mode-at, ne-eqb _ _ (t .if1 .left)))
 
 pub left-spec : {M : Type 1} → statement M
 left-spec =

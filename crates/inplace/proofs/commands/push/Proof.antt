@@ -16,7 +16,9 @@ same-length c = search needs
 
 returns : tie.Need-returns
 unfolding pushOf
-returns c = rw (c .before .before .shift .ensures) (simp (cursor-at, mode-at, scrolling-at, eq-eqb _ _ (c .before .before .before .before .if1 .taken)))
+returns c =
+    let t = c .before .before .before .before in
+    rw (c .before .before .shift .ensures) (simp (cursor-at, mode-at, scrolling-at, eq-eqb _ _ (t .if1 .taken)))
 
 slice-read-x : tie.Need-slice-read-x
 slice-read-x c = search needs
@@ -32,7 +34,10 @@ same-length-2 c = search needs
 
 returns-2 : tie.Need-returns-2
 unfolding pushOf
-returns-2 c = rw (c .before .before .set-scrolling .ensures, c .before .before .before .before .before .before .put .ensures) (simp (cursor-at, mode-at, scrolling-at, ne-eqb _ _ (c .before .before .before .before .before .before .before .before .before .if1 .left)))
+returns-2 c =
+    let p = c .before .before .before .before .before .before in
+    rw (c .before .before .set-scrolling .ensures, p .put .ensures)
+    (simp (cursor-at, mode-at, scrolling-at, ne-eqb _ _ (p .before .before .before .if1 .left)))
 
 pub push-spec : {M : Type 1} → statement M
 push-spec =

@@ -41,8 +41,9 @@ same-length-2 c = search needs
 returns-3 : tie.Need-returns-3
 returns-3 c =
     let t = c .before .before .before .before in
+    let u = t .before .before .before in
     c .before .before .move-to2 .ensures
-    ∙ right-next _ _ (t .before .before .before .before .below-19 .ensures) (t .before .before .before .if1 .left) (t .before .if2 .left) (t .if3 .taken)
+    ∙ right-next _ _ (u .before .below-19 .ensures) (u .if1 .left) (t .before .if2 .left) (t .if3 .taken)
 
 move-to-requires-3 : tie.Need-move-to-requires-3
 move-to-requires-3 c κs = search needs
@@ -53,9 +54,10 @@ same-length-3 c = search needs
 returns-4 : tie.Need-returns-4
 returns-4 c =
     let t = c .before .before .before .before in
+    let u = t .before .before .before .before in
     c .before .before .move-to3 .ensures
-    ∙ right-home _ _ (t .before .before .before .before .before .below-19 .ensures) (t .before .before .before .before .if1 .left) (t .before .before .if2 .left)
-    (t .before .if3 .left) (t .if4 .taken)
+    ∙ right-home _ _ (u .before .below-19 .ensures) (u .if1 .left) (t .before .before .if2 .left) (t .before .if3 .left)
+    (t .if4 .taken)
 
 scroll-requires : tie.Need-scroll-requires
 scroll-requires c κs = search needs
@@ -70,9 +72,10 @@ returns-5 : tie.Need-returns-5
 returns-5 c =
     let s = c .before .before .before .before .before .before in
     let t = s .before .before in
+    let u = t .before .before .before .before in
     c .before .before .move-to4 .ensures ∙ ap (λ (k : Condition). withCursor k 20) (s .scroll .ensures)
-    ∙ right-scroll _ _ (t .before .before .before .before .before .below-19 .ensures) (t .before .before .before .before .if1 .left) (t .before .before .if2 .left)
-    (t .before .if3 .left) (t .if4 .left)
+    ∙ right-scroll _ _ (u .before .below-19 .ensures) (u .if1 .left) (t .before .before .if2 .left) (t .before .if3 .left)
+    (t .if4 .left)
 
 pub right-spec : {M : Type 1} → statement M
 right-spec =

@@ -44,7 +44,8 @@ same-length-2 c = search needs
 returns-2 : tie.Need-returns-2
 returns-2 c =
     let t = c .before .before .before .before in
-    c .before .before .push .ensures ∙ write-edge _ _ (t .before .below-19 .ensures) _ (t .before .before .if1 .taken) (t .if2 .left)
+    c .before .before .push .ensures
+    ∙ write-edge _ _ (t .before .below-19 .ensures) _ (t .before .before .if1 .taken) (t .if2 .left)
 
 put-requires-2 : tie.Need-put-requires-2
 put-requires-2 c κs = search needs
@@ -52,7 +53,8 @@ put-requires-2 c κs = search needs
 right-requires : tie.Need-right-requires
 right-requires c κs =
     let s = c .before .before .before .before .before .before .before .before .before .args .s .now in
-    let e : getD (c .before .before .before .put2 .last .0) 3 0 ≡ getD s 3 0 = cursor-by _ _ (c .before .before .before .put2 .ensures) ∙ cursor-at s in
+    let p = c .before .before .before .put2 in
+    let e : getD (p .last .0) 3 0 ≡ getD s 3 0 = cursor-by _ _ (p .ensures) ∙ cursor-at s in
     (search needs, rw e (search needs))
 
 same-length-3 : tie.Need-same-length-3

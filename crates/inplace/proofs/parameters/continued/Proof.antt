@@ -59,8 +59,9 @@ same-length-3 c = search needs
 returns-3 : tie.Need-returns-3
 unfolding stepAt
 returns-3 c =
-    c .before .before .set-luminance .ensures ∙ rw (c .before .before .before .before .before .before .set-pending .ensures)
-    (half-step _ _ Luminance (rw (c .before .before .before .before .before .before .before .before .match .keys3)))
+    let p = c .before .before .before .before .before .before in
+    c .before .before .set-luminance .ensures
+    ∙ rw (p .set-pending .ensures) (half-step _ _ Luminance (rw (p .before .before .match .keys3)))
 
 same-length-4 : tie.Need-same-length-4
 same-length-4 c = search needs
@@ -68,15 +69,18 @@ same-length-4 c = search needs
 returns-4 : tie.Need-returns-4
 unfolding stepAt
 returns-4 c =
-    c .before .before .set-speed .ensures ∙ rw (c .before .before .before .before .before .before .set-pending2 .ensures)
-    (half-step _ _ Speed (rw (c .before .before .before .before .before .before .before .before .match .keys4)))
+    let p = c .before .before .before .before .before .before in
+    c .before .before .set-speed .ensures
+    ∙ rw (p .set-pending2 .ensures) (half-step _ _ Speed (rw (p .before .before .match .keys4)))
 
 same-length-5 : tie.Need-same-length-5
 same-length-5 c = search needs
 
 returns-5 : tie.Need-returns-5
 unfolding stepAt
-returns-5 c = c .before .before .set-pending3 .ensures ∙ half-step _ _ UserCode (rw (c .before .before .before .before .match .keys5))
+returns-5 c =
+    c .before .before .set-pending3 .ensures
+    ∙ half-step _ _ UserCode (rw (c .before .before .before .before .match .keys5))
 
 same-length-6 : tie.Need-same-length-6
 same-length-6 c = search needs

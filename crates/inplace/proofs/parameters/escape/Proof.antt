@@ -61,7 +61,9 @@ same-length-5 c = search needs
 
 returns-5 : tie.Need-returns-5
 unfolding escapeOf
-returns-5 c = rw (c .before .before .flickerless-on .ensures, c .before .before .before .before .before .before .set-pending4 .ensures, c .before .before .before .before .before .before .before .before .match .keys5)
+returns-5 c =
+    let p = c .before .before .before .before .before .before in
+    rw (c .before .before .flickerless-on .ensures, p .set-pending4 .ensures, p .before .before .match .keys5)
 
 same-length-6 : tie.Need-same-length-6
 same-length-6 c = search needs

@@ -16,14 +16,19 @@ same-length c = search needs
 
 returns : tie.Need-returns
 unfolding positionOf
-returns c = rw (c .before .before .go-to .ensures, c .before .before .before .before .before .before .before .set-pending .ensures) (simp (cursor-at, mode-at, scrolling-at, le-leb _ _ (c .before .before .before .before .if1 .taken)))
+returns c =
+    let t = c .before .before .before .before in
+    rw (c .before .before .go-to .ensures, t .before .before .before .set-pending .ensures)
+    (simp (cursor-at, mode-at, scrolling-at, le-leb _ _ (t .if1 .taken)))
 
 same-length-2 : tie.Need-same-length-2
 same-length-2 c = search needs
 
 returns-2 : tie.Need-returns-2
 unfolding positionOf
-returns-2 c = rw (c .before .before .before .set-pending .ensures) (simp (cursor-at, mode-at, scrolling-at, lt-leb _ _ (c .if1 .left)))
+returns-2 c =
+    rw (c .before .before .before .set-pending .ensures)
+    (simp (cursor-at, mode-at, scrolling-at, lt-leb _ _ (c .if1 .left)))
 
 pub position-spec : {M : Type 1} → statement M
 position-spec =

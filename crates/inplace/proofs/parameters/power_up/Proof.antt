@@ -21,7 +21,9 @@ same-length c = search needs
 
 returns : tie.Need-returns
 unfolding powerUp
-returns c = rw (c .before .before .reset .ensures, c .before .before .before .before .before .before .forget .ensures, c .before .before .before .before .before .before .before .before .before .before .blank .ensures) (simp link-at)
+returns c =
+    let f = c .before .before .before .before .before .before in
+    rw (c .before .before .reset .ensures, f .forget .ensures, f .before .before .before .before .blank .ensures) (simp link-at)
 
 pub power-up-spec : {M : Type 1} → statement M
 power-up-spec =

@@ -18,7 +18,9 @@ same-length c = search needs
 
 returns : tie.Need-returns
 unfolding dataOf
-returns c = rw (c .before .before .set-pending .ensures, c .before .before .before .before .before .before .hold .ensures, lt-ltb _ _ (c .before .before .before .before .before .before .before .before .if1 .taken))
+returns c =
+    let h = c .before .before .before .before .before .before in
+    rw (c .before .before .set-pending .ensures, h .hold .ensures, lt-ltb _ _ (h .before .before .if1 .taken))
 
 define-requires : tie.Need-define-requires
 define-requires c κs = search needs
@@ -34,7 +36,15 @@ same-length-2 c = search needs
 
 returns-2 : tie.Need-returns-2
 unfolding dataOf
-returns-2 c = rw (c .before .before .set-pending2 .ensures, c .before .before .before .before .before .before .release .ensures, c .before .before .before .before .before .before .before .before .before .before .define .ensures, le-ltb _ _ (c .before .before .before .before .before .before .before .before .before .before .before .before .if1 .left))
+returns-2 c =
+    let r = c .before .before .before .before .before .before in
+    let d = r .before .before .before .before in
+    rw (
+      c .before .before .set-pending2 .ensures,
+      r .release .ensures,
+      d .define .ensures,
+      le-ltb _ _ (d .before .before .if1 .left),
+    )
 
 pub user-data-spec : {M : Type 1} → statement M
 user-data-spec =

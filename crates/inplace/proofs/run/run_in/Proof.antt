@@ -55,8 +55,9 @@ loop-again : tie.Need-loop-again Inv-loop μ-loop
 loop-again c =
     let t = c .before .before .before .before .before .before .before .before in
     let l = t .loop in
+    let more = c .before .before .before .before .before .before .before .loop-test .taken in
     let b = c .before .before .before .shared-slice-known2 .given (l .i) in (
-      going-turns _ _ _ _ _ _ (l .inv .0) _ _ _ (c .before .before .before .before .before .before .before .loop-test .taken) (b .fits) (search needs)
+      going-turns _ _ _ _ _ _ (l .inv .0) _ _ _ more (b .fits) (search needs)
           (c .before .before .step .ensures) (c .before .before .before .before .before .one-if .ensures .0),
       l .inv .1,
       search needs,

@@ -43,7 +43,8 @@ returns-3 : tie.Need-returns-3
 returns-3 c =
     let t = c .before .before .before .before in
     let w = c .before .before .character2 .ensures in
-    char-step _ _ (t .before .before .before .before .if1 .left) _ _ (user-char _ _ _ (t .before .is-user .ensures) (t .if3 .taken)) (w .0) (w .1)
+    char-step _ _ (t .before .before .before .before .if1 .left) _ _
+    (user-char _ _ _ (t .before .is-user .ensures) (t .if3 .taken)) (w .0) (w .1)
 
 control-busy-requires : tie.Need-control-busy-requires
 control-busy-requires c κs = search needs
