@@ -21,7 +21,8 @@ use Rattle.interpreter.specs.declared.Ran.{Ran}
 use Rattle.inplace.specs.InPlace.{Carried}
 use Rattle.inplace.specs.Carry.{carryRefusal}
 use Rattle.inplace.proofs.Carrying.{accepts}
-use Rattle.interpreter.specs.Run.{limit, withinLimit, tallied, runRefusal, refusedOf, acceptedOf, runAnswer, inTurn, RunPromise, LentPromise}
+use Rattle.interpreter.specs.Run.{limit, withinLimit, tallied, runRefusal, refusedOf, acceptedOf, runAnswer, inTurn}
+use Rattle.interpreter.specs.Run.{RunPromise, LentPromise}
 
 -- each number of a tally within its limit
 pub record Within (t : Tally) : Type 0 where
@@ -51,13 +52,13 @@ not-run c t bs r n e f h =
 run-or-carry : (c : Condition) (t : Tally) (bs : List ℕ) → withinLimit t ≡ true
     → runRefusal c t bs ≡ cond (eqb (carryRefusal c bs) 0) (cond (not (withinLimit (tallied t c bs))) 5 0) (carryRefusal c bs)
 unfolding runRefusal carryRefusal
-run-or-carry c t bs l = rw l (go (wellFormed c) (ltb 32768 (length bs)))
+run-or-carry c t bs l = rw l (go (wellFormed c) (ltb 32768 (length bs)) (cond (not (withinLimit (tallied t c bs))) 5 0))
   where
-    go : (w x : Bool) → _≡_ {A = ℕ} (cond (not (w && true)) 3 (cond x 4 (cond (not (withinLimit (tallied t c bs))) 5 0)))
-        (cond (eqb (cond (not w) 3 (cond x 4 0)) 0) (cond (not (withinLimit (tallied t c bs))) 5 0) (cond (not w) 3 (cond x 4 0)))
-    go true true = refl
-    go true false = refl
-    go false x = refl
+    go : (w x : Bool) (n : ℕ)
+        → cond (not (w && true)) 3 (cond x 4 n) ≡ cond (eqb (cond (not w) 3 (cond x 4 0)) 0) n (cond (not w) 3 (cond x 4 0))
+    go true true n = refl
+    go true false n = refl
+    go false x n = refl
 
 -- a condition that is not well formed is refused by 3, whatever else is wrong
 pub run-unformed : (c : Condition) (t : Tally) (bs : List ℕ) → wellFormed c ≡ false → runAnswer c t bs .refusal ≡ 3
@@ -118,15 +119,16 @@ ran t c k bs busy flickerless g = rw (g .leaves, tallies t c k bs busy flickerle
 pub one-run : (c : Condition) (t : Tally) (bs : List ℕ) (r s : Ran) → RunPromise c t bs r → RunPromise c t bs s → r ≡ s
 one-run c t bs r s p q = p .answer ∙ sym (q .answer)
 
-pub one-lent-run : (c : Condition) (t : Tally) (bs : List ℕ) (r s : Ran) (x y : Tally) → LentPromise c t bs r x → LentPromise c t bs s y
-    → (r ≡ s) × (x ≡ y)
+pub one-lent-run : (c : Condition) (t : Tally) (bs : List ℕ) (r s : Ran) (x y : Tally)
+    → LentPromise c t bs r x → LentPromise c t bs s y → (r ≡ s) × (x ≡ y)
 one-lent-run c t bs r s x y p q =
     let e : r ≡ s = one-run c t bs r s (p .ran) (q .ran) in
     (e, p .stored ∙ ap (λ (k : Ran). k .tally) e ∙ sym (q .stored))
 
 -- One run or several with the same bytes in turn end alike where no piece and no whole is refused ------------------------------
 
-accepted-append : (c : Condition) (t : Tally) (xs ys : List ℕ) → acceptedOf (runOf c xs) (tallied t c xs) ys ≡ acceptedOf c t (xs ++ ys)
+accepted-append : (c : Condition) (t : Tally) (xs ys : List ℕ)
+    → acceptedOf (runOf c xs) (tallied t c xs) ys ≡ acceptedOf c t (xs ++ ys)
 unfolding tallied
 accepted-append c t xs ys =
     rw (
@@ -145,7 +147,8 @@ not-refused c t bs =
     by-test (λ (r : Ran). r .refusal ≡ 0 → r ≡ acceptedOf c t bs) (eqb (runRefusal c t bs) 0) (λ _ _. refl)
     (λ e z. absurd (eqb-false (runRefusal c t bs) 0 e z))
 
-turns : (c : Condition) (t : Tally) (pieces : List (List ℕ)) → inTurn c t pieces .refusal ≡ 0 → inTurn c t pieces ≡ acceptedOf c t (flatten pieces)
+turns : (c : Condition) (t : Tally) (pieces : List (List ℕ))
+    → inTurn c t pieces .refusal ≡ 0 → inTurn c t pieces ≡ acceptedOf c t (flatten pieces)
 unfolding inTurn flatten runOf tallied busyOf flickerlessOf
 turns c t [] = λ _. simp add-zero
 turns c t (bs ∷ pieces) =

@@ -49,7 +49,8 @@ runAnswer c t bs = cond (eqb (runRefusal c t bs) 0) (acceptedOf c t bs) (refused
 unfoldable pub inTurn : Condition → Tally → List (List ℕ) → Ran
 inTurn c t [] = record { refusal = 0; condition = c; tally = t }
 inTurn c t (bs ∷ pieces) =
-    cond (eqb (runAnswer c t bs .refusal) 0) (inTurn (runAnswer c t bs .condition) (runAnswer c t bs .tally) pieces) (runAnswer c t bs)
+    cond (eqb (runAnswer c t bs .refusal) 0) (inTurn (runAnswer c t bs .condition) (runAnswer c t bs .tally) pieces)
+    (runAnswer c t bs)
 
 -- The answer r of a run. An accepted run leaves a well-formed condition.
 pub record RunPromise (c : Condition) (t : Tally) (bs : List ℕ) (r : Ran) : Type 0 where
