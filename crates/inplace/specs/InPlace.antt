@@ -41,7 +41,7 @@ releasedIn c = withHeld c (replicate 4 0)
 abbrev pub resetIn : Condition → ℕ → Condition
 resetIn c f = withUsers (withCells (powerUp f) (c .codes) (c .fonts)) (usersIn (c .users .bytes) 0)
 
--- 18h to 1Bh; any other byte is ignored
+-- 18h to 1Bh: the font, Euro, and ESC; any other byte is ignored
 unfoldable pub selectOf : Condition → ℕ → Condition
 selectOf c b =
     cond (eqb b 0x18) (internationalOf c)
@@ -50,7 +50,8 @@ selectOf c b =
     (cond (eqb b 0x1B) (withPending c Escape)
     c)))
 
--- 11h to 17h, and then as above: what `controlOf` gives for a byte that is none of 08h to 0Fh
+-- 11h to 17h: the mode, and the cursor shown or not; then as above. It is what `controlOf` gives for a byte that is none of
+-- 08h, 09h, 0Ah and 0Ch to 0Fh.
 unfoldable pub settingOf : Condition → ℕ → Condition
 settingOf c b =
     cond (eqb b 0x11) (modeOf c 1)

@@ -145,7 +145,7 @@ pub(crate) fn write(s: &mut [u8], b: u8)
     right(s);
 }
 
-// 18h to 1Bh; any other byte is ignored.
+// 18h to 1Bh: the font, Euro, and ESC. Any other byte is ignored.
 fn select(s: &mut [u8], b: u8)
     requires { ⌜ 200 ≤ length (now s) ⌝ }
     ensures { λ _. ⌜ conditionIn (now (s .exit)) ≡ selectOf (conditionIn (now (s .entry))) b ⌝ }
@@ -159,7 +159,7 @@ fn select(s: &mut [u8], b: u8)
     }
 }
 
-// 11h to 17h, and what select does.
+// 11h to 17h: the mode, and the cursor shown or not.
 fn setting(s: &mut [u8], b: u8)
     requires { ⌜ 200 ≤ length (now s) ⌝ }
     ensures { λ _. ⌜ conditionIn (now (s .exit)) ≡ settingOf (conditionIn (now (s .entry))) b ⌝ }
@@ -176,7 +176,7 @@ fn setting(s: &mut [u8], b: u8)
     }
 }
 
-// Any other byte; those that are not named are ignored.
+// A byte that is no character; those that are not named are ignored. Three short matches are proved sooner than a long one.
 pub(crate) fn control(s: &mut [u8], b: u8)
     requires { ⌜ (200 ≤ length (now s)) × (getD (now s) 3 0 < 40) ⌝ }
     ensures { λ _. ⌜ conditionIn (now (s .exit)) ≡ controlOf (conditionIn (now (s .entry))) b ⌝ }
