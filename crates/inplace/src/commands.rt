@@ -176,7 +176,7 @@ fn setting(s: &mut [u8], b: u8)
     }
 }
 
-// A byte that is no character; those that are not named are ignored. Three short matches are proved sooner than a long one.
+// A byte that is no character; those that are not named are ignored.
 pub(crate) fn control(s: &mut [u8], b: u8)
     requires { ⌜ (200 ≤ length (now s)) × (getD (now s) 3 0 < 40) ⌝ }
     ensures { λ _. ⌜ conditionIn (now (s .exit)) ≡ controlOf (conditionIn (now (s .entry))) b ⌝ }
