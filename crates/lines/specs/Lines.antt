@@ -1,13 +1,22 @@
 -- Lines of text in a lent buffer: words, numbers, hex, and what ends a program's print of a run.
 use Prim.Native.Nat.{ℕ, zero, suc, _+_, _-_, _/_, _%_, min}
+use Prim.Native.Char.{code}
+use Prim.Native.String.{String, [] as []ˢ, _∷_ as _∷ˢ_}
 use mathlib.Core.Path.{_≡_}
 use mathlib.Core.Bool.{cond}
 use mathlib.Core.List.{List, [], _∷_, _++_}
 use lib.ListN.{length, take, drop}
 use lib.Dec.{eqb, ltb}
 use Rattle.row.specs.Row.{laid}
+use Rattle.condition.specs.Condition.{powerUp}
 use Rattle.interpreter.specs.declared.Tally.{Tally}
 use Rattle.interpreter.specs.declared.Ran.{Ran}
+use Rattle.interpreter.specs.Run.{runAnswer}
+
+-- a text as bytes, one for each character (the texts here are ASCII)
+abbrev pub text : String → List ℕ
+text []ˢ = []
+text (c ∷ˢ s) = code c ∷ text s
 
 -- the text x was added at k, as far as there is room, and r is the place after it
 pub record Added (before : List ℕ) (k : ℕ) (x : List ℕ) (after : List ℕ) (r : ℕ) : Type 0 where
@@ -21,7 +30,7 @@ each f (suc n) = each f n ++ f n
 
 -- upper-case hex: 0 to 9, A to F
 unfoldable pub hexDigit : ℕ → ℕ
-hexDigit n = cond (ltb n 10) (48 + n) (55 + n)
+hexDigit n = cond (ltb n 10) (code "0" + n) (code "A" + (n - 10))
 
 -- a byte in two digits
 abbrev pub hexOf : ℕ → List ℕ
@@ -30,7 +39,7 @@ hexOf b = hexDigit (b / 16) ∷ hexDigit (b % 16) ∷ []
 -- a number in decimal, of at most f digits
 unfoldable pub decimalIn : ℕ → ℕ → List ℕ
 decimalIn zero n = []
-decimalIn (suc f) n = cond (ltb n 10) ((48 + n) ∷ []) (decimalIn f (n / 10) ++ ((48 + n % 10) ∷ []))
+decimalIn (suc f) n = cond (ltb n 10) ((code "0" + n) ∷ []) (decimalIn f (n / 10) ++ ((code "0" + n % 10) ∷ []))
 
 unfoldable pub decimalOf : ℕ → List ℕ
 decimalOf n = decimalIn 20 n
@@ -40,17 +49,17 @@ abbrev pub numbered : List ℕ → ℕ → List ℕ
 numbered word n = word ++ decimalOf n
 
 abbrev pub newLine : List ℕ
-newLine = 0x0A ∷ []
+newLine = text "\n"
 
 -- the tally: `bytes B busy T flickerless F`
 unfoldable pub tallyLine : Tally → List ℕ
 tallyLine t =
-    numbered (98 ∷ 121 ∷ 116 ∷ 101 ∷ 115 ∷ 32 ∷ []) (t .bytes) ++ (numbered (32 ∷ 98 ∷ 117 ∷ 115 ∷ 121 ∷ 32 ∷ []) (t .busy)
-    ++ (numbered (32 ∷ 102 ∷ 108 ∷ 105 ∷ 99 ∷ 107 ∷ 101 ∷ 114 ∷ 108 ∷ 101 ∷ 115 ∷ 115 ∷ 32 ∷ []) (t .flickerless) ++ newLine))
+    numbered (text "bytes ") (t .bytes)
+    ++ (numbered (text " busy ") (t .busy) ++ (numbered (text " flickerless ") (t .flickerless) ++ newLine))
 
 -- `refused N`
 unfoldable pub refusedLine : ℕ → List ℕ
-refusedLine n = numbered (114 ∷ 101 ∷ 102 ∷ 117 ∷ 115 ∷ 101 ∷ 100 ∷ 32 ∷ []) n ++ newLine
+refusedLine n = numbered (text "refused ") n ++ newLine
 
 -- a program's print of a run ends with the tally, after what stands up to k; a refused run prints its refusal alone
 unfoldable pub endStart : Ran → ℕ → ℕ
@@ -62,3 +71,11 @@ endOf r = cond (eqb (r .refusal) 0) (tallyLine (r .tally)) (refusedLine (r .refu
 -- what is printed of a run: a body and the tally, or `refused N` alone
 unfoldable pub printOf : List ℕ → Ran → List ℕ
 printOf body r = cond (eqb (r .refusal) 0) (body ++ tallyLine (r .tally)) (refusedLine (r .refusal))
+
+-- The run that both programs print: of their input, from power-up font 0 with a zero tally
+
+abbrev pub noTally : Tally
+noTally = record { bytes = 0; busy = 0; flickerless = 0 }
+
+abbrev pub runFromStart : List ℕ → Ran
+runFromStart input = runAnswer (powerUp 0) noTally input

@@ -33,7 +33,7 @@ fn hex_digit(n: u8) -> u8
     requires { ⌜ n < 16 ⌝ }
     ensures { λ r. ⌜ r ≡ hexDigit n ⌝ }
 {
-    if n < 10 { 48 + n } else { 55 + n }
+    if n < 10 { b'0' + n } else { b'A' + (n - 10) }
 }
 
 // A word, and a byte in two-digit hex, come at k.

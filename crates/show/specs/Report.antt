@@ -1,16 +1,17 @@
 -- What `show` prints (document 01, Sample program).
 use Prim.Native.Nat.{ℕ, _-_}
+use Prim.Native.Char.{code}
 use mathlib.Core.Bool.{cond}
 use mathlib.Core.List.{List, [], _∷_, _++_}
 use lib.ListN.{length, take, drop, getD}
 use lib.Dec.{eqb}
 use Rattle.condition.specs.declared.Condition.{Condition}
 use Rattle.interpreter.specs.declared.Ran.{Ran}
-use Rattle.lines.specs.Lines.{each, hexOf, numbered, newLine, printOf}
+use Rattle.lines.specs.Lines.{text, each, hexOf, numbered, newLine, printOf}
 
 -- what follows the code at i of n codes: one space between, a new line at the end
 unfoldable pub separatorOf : ℕ → ℕ → ℕ
-separatorOf i n = cond (eqb (n - i) 1) 0x0A 0x20
+separatorOf i n = cond (eqb (n - i) 1) (code "\n") (code " ")
 
 -- the code at i in two-digit hex, and what follows it
 unfoldable pub codeText : List ℕ → ℕ → List ℕ
@@ -27,8 +28,7 @@ cellLines codes = hexLine (take 20 codes) ++ hexLine (drop 20 codes)
 -- in decimal cursor, mode, selected font: `cursor C mode M font F`
 unfoldable pub placeLine : Condition → List ℕ
 placeLine c =
-    numbered (99 ∷ 117 ∷ 114 ∷ 115 ∷ 111 ∷ 114 ∷ 32 ∷ []) (c .cursor) ++ (numbered (32 ∷ 109 ∷ 111 ∷ 100 ∷ 101 ∷ 32 ∷ []) (c .mode)
-    ++ (numbered (32 ∷ 102 ∷ 111 ∷ 110 ∷ 116 ∷ 32 ∷ []) (c .font) ++ newLine))
+    numbered (text "cursor ") (c .cursor) ++ (numbered (text " mode ") (c .mode) ++ (numbered (text " font ") (c .font) ++ newLine))
 
 unfoldable pub reportOf : Condition → List ℕ
 reportOf c = cellLines (c .codes) ++ placeLine c

@@ -2,7 +2,7 @@
 ghost use mathlib.Core.Path.{_≡_};
 ghost use Prim.Native.Nat.{_≤_, _<_};
 ghost use lib.ListN.{length, take};
-ghost use Rattle.lines.specs.Lines.{Added};
+ghost use Rattle.lines.specs.Lines.{Added, runFromStart};
 ghost use Rattle.show.specs.Report.{separatorOf, hexLine, cellLines, placeLine, shownOf};
 use condition::Condition;
 use interpreter::Ran;
@@ -61,9 +61,11 @@ fn add_shown(out: &mut [u8], r: Ran) -> usize
     lines::add_end(out, b, r)
 }
 
-fn main() {
-    let mut input = [0u8; 32769];
-    let n = io::read_full(libc::STDIN_FILENO, &mut input);
+// What is shown of an input.
+fn show(out: &mut [u8], input: &[u8]) -> usize
+    requires { ⌜ 286 ≤ length (now out) ⌝ }
+    ensures { λ n. ⌜ (take n (now (out .exit)) ≡ shownOf (runFromStart (now (input .entry)))) × (n ≤ length (now (out .exit))) ⌝ }
+{
     let start = Condition::power_up(0);
     let c = start.condition;
     let zero = Tally {
@@ -71,8 +73,14 @@ fn main() {
         busy: 0,
         flickerless: 0,
     };
-    let r = interpreter::run(c, zero, &input[..n]);
+    let r = interpreter::run(c, zero, input);
+    add_shown(out, r)
+}
+
+fn main() {
+    let mut input = [0u8; 32769];
+    let n = io::read_full(libc::STDIN_FILENO, &mut input);
     let mut out = [0u8; 320];
-    let k = add_shown(&mut out, r);
+    let k = show(&mut out, &input[..n]);
     io::write_all(libc::STDOUT_FILENO, &out[..k]);
 }

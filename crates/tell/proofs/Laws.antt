@@ -29,7 +29,9 @@ dots-length c code = each-length (dotText c code) 20 35 (λ i. decimal-length (d
 user-length : (c : Condition) (code : ℕ) → length (userLine c code) ≤ 765
 unfolding userLine
 user-length c code =
-    simp length-append (omega (arith, dots-length c code, decimal-length (underlineAnswer c code .value), decimal-length (litAnswer c code .value)))
+    let underline = decimal-length (underlineAnswer c code .value) in
+    let lit = decimal-length (litAnswer c code .value) in
+    simp length-append (omega (arith, dots-length c code))
 
 pub told-length : (r : Ran) → length (toldOf r) ≤ 16384
 unfolding reportOf placeLine

@@ -5,24 +5,20 @@ use lib.ListN.{getD}
 use Rattle.condition.specs.declared.Condition.{Condition}
 use Rattle.glass.specs.declared.Shows.{Shows}
 use Rattle.glass.specs.declared.Shows.the-variants.{Blank, User, Euro, BuiltIn}
-use Rattle.condition.specs.Condition.{powerUp}
 use Rattle.glass.specs.Answers.{viewAnswer, dotAnswer, underlineAnswer, litAnswer}
-use Rattle.interpreter.specs.declared.Tally.{Tally}
 use Rattle.interpreter.specs.declared.Ran.{Ran}
-use Rattle.interpreter.specs.Run.{runAnswer}
-use Rattle.lines.specs.Lines.{each, hexOf, decimalOf, numbered, newLine, printOf}
+use Rattle.lines.specs.Lines.{text, each, hexOf, decimalOf, numbered, newLine, printOf}
 
 -- what a cell shows: ` blank`, ` user HH`, ` euro` or ` code HH font F`
 unfoldable pub showsText : Shows → List ℕ
-showsText Blank = 32 ∷ 98 ∷ 108 ∷ 97 ∷ 110 ∷ 107 ∷ []
-showsText (User x) = (32 ∷ 117 ∷ 115 ∷ 101 ∷ 114 ∷ 32 ∷ []) ++ hexOf x
-showsText Euro = 32 ∷ 101 ∷ 117 ∷ 114 ∷ 111 ∷ []
-showsText (BuiltIn x f) =
-    ((32 ∷ 99 ∷ 111 ∷ 100 ∷ 101 ∷ 32 ∷ []) ++ hexOf x) ++ numbered (32 ∷ 102 ∷ 111 ∷ 110 ∷ 116 ∷ 32 ∷ []) f
+showsText Blank = text " blank"
+showsText (User x) = text " user " ++ hexOf x
+showsText Euro = text " euro"
+showsText (BuiltIn x f) = (text " code " ++ hexOf x) ++ numbered (text " font ") f
 
 -- `cell P`, and what it shows
 unfoldable pub cellLine : Condition → ℕ → List ℕ
-cellLine c p = numbered (99 ∷ 101 ∷ 108 ∷ 108 ∷ 32 ∷ []) p ++ (showsText (viewAnswer c p .shows) ++ newLine)
+cellLine c p = numbered (text "cell ") p ++ (showsText (viewAnswer c p .shows) ++ newLine)
 
 -- the dots P1 to P35 of a user character, 1 where it is lit, else 0
 unfoldable pub dotText : Condition → ℕ → ℕ → List ℕ
@@ -31,9 +27,9 @@ dotText c code i = decimalOf (dotAnswer c code (i + 1) .value)
 -- `user HH`, its dots, ` underline U lit N`
 unfoldable pub userLine : Condition → ℕ → List ℕ
 userLine c code =
-    ((117 ∷ 115 ∷ 101 ∷ 114 ∷ 32 ∷ []) ++ hexOf code) ++ ((32 ∷ []) ++ (each (dotText c code) 35
-    ++ (numbered (32 ∷ 117 ∷ 110 ∷ 100 ∷ 101 ∷ 114 ∷ 108 ∷ 105 ∷ 110 ∷ 101 ∷ 32 ∷ []) (underlineAnswer c code .value)
-    ++ (numbered (32 ∷ 108 ∷ 105 ∷ 116 ∷ 32 ∷ []) (litAnswer c code .value) ++ newLine))))
+    (text "user " ++ hexOf code) ++ (text " " ++ (each (dotText c code) 35
+    ++ (numbered (text " underline ") (underlineAnswer c code .value)
+    ++ (numbered (text " lit ") (litAnswer c code .value) ++ newLine))))
 
 -- the user character at a place, counted from the oldest
 unfoldable pub placeLine : Condition → ℕ → List ℕ
@@ -46,10 +42,3 @@ reportOf c = each (cellLine c) 40 ++ each (placeLine c) (min (c .users .count) 1
 -- what is printed of a run: its report, then the tally; or `refused N` alone
 abbrev pub toldOf : Ran → List ℕ
 toldOf r = printOf (reportOf (r .condition)) r
-
-abbrev pub noTally : Tally
-noTally = record { bytes = 0; busy = 0; flickerless = 0 }
-
--- the run that is told of: from power-up font 0 with a zero tally
-abbrev pub ranOf : List ℕ → Ran
-ranOf input = runAnswer (powerUp 0) noTally input

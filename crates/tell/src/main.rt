@@ -4,8 +4,8 @@ ghost use mathlib.Core.Path.{_≡_};
 ghost use Prim.Native.Nat.{_≤_, min};
 ghost use lib.ListN.{length, take};
 ghost use Rattle.interpreter.specs.Run.{RunPromise};
-ghost use Rattle.lines.specs.Lines.{Added, each};
-ghost use Rattle.tell.specs.Report.{showsText, cellLine, dotText, userLine, placeLine, toldOf, ranOf};
+ghost use Rattle.lines.specs.Lines.{Added, each, runFromStart};
+ghost use Rattle.tell.specs.Report.{showsText, cellLine, dotText, userLine, placeLine, toldOf};
 use condition::Condition;
 use glass::Shows;
 use interpreter::Ran;
@@ -121,7 +121,7 @@ fn add_told(out: &mut [u8], r: Ran) -> usize
 // What is told of an input.
 fn tell(out: &mut [u8], input: &[u8]) -> usize
     requires { ⌜ 16384 ≤ length (now out) ⌝ }
-    ensures { λ n. ⌜ (take n (now (out .exit)) ≡ toldOf (ranOf (now (input .entry)))) × (n ≤ length (now (out .exit))) ⌝ }
+    ensures { λ n. ⌜ (take n (now (out .exit)) ≡ toldOf (runFromStart (now (input .entry)))) × (n ≤ length (now (out .exit))) ⌝ }
 {
     let start = Condition::power_up(0);
     let c = start.condition;

@@ -31,8 +31,9 @@ same-length c = search needs
 returns : tie.Need-returns
 unfolding cellLines
 returns c =
-    let s = c .before .before .before .before .before .before .before .before .before .before .before .before .args .codes .now in
-    both-added (c .before .before .before .before .before .before .before .add-codes .ensures) (rw (tail-part s 20) at (c .before .before .add-codes2 .ensures))
+    let t = c .before .before .before .before .before .before .before in
+    let codes = t .before .before .before .before .before .args .codes .now in
+    both-added (t .add-codes .ensures) (rw (tail-part codes 20) at (c .before .before .add-codes2 .ensures))
 
 pub add-cells-spec : {M : Type 1} → statement M
 add-cells-spec =

@@ -46,9 +46,13 @@ loop-less c = search needs
 loop-again : tie.Need-loop-again Inv-loop μ-loop
 unfolding codeText
 loop-again c =
-    let l = c .before .before .before .before .before .before .before .before .before .before .before .before .before .loop in
-    let w = rw (c .before .before .before .before .before .separator .ensures) at (c .before .before .add-word .ensures) in
-    (omega (arith, c .before .before .before .before .before .before .before .before .before .before .before .before .loop-test .taken), each-added _ (l .i) (l .inv .1) (both-added (c .before .before .before .before .before .before .before .before .add-hex .ensures) w))
+    let w = c .before .before in
+    let g = w .before .before .before in
+    let h = g .before .before .before in
+    let t = h .before .before .before .before in
+    let l = t .before .loop in
+    let text = both-added (h .add-hex .ensures) (rw (g .separator .ensures) at (w .add-word .ensures)) in
+    (omega (arith, t .loop-test .taken), each-added _ (l .i) (l .inv .1) text)
 
 same-length : tie.Need-same-length Inv-loop μ-loop
 same-length c = same-added (c .before .loop .inv .1)

@@ -43,8 +43,11 @@ same-length c = search needs
 returns : tie.Need-returns
 unfolding placeLine
 returns c =
-    both-added (c .before .before .before .before .before .before .before .before .before .before .before .before .before .before .before .before .before .before .before .add-number .ensures) (both-added (c .before .before .before .before .before .before .before .before .before .before .before .before .before .add-number2 .ensures)
-    (both-added (c .before .before .before .before .before .before .before .add-number3 .ensures) (c .before .before .add-word .ensures)))
+    let f = c .before .before .before .before .before .before .before in
+    let m = f .before .before .before .before .before .before in
+    let p = m .before .before .before .before .before .before in
+    both-added (p .add-number .ensures)
+    (both-added (m .add-number2 .ensures) (both-added (f .add-number3 .ensures) (c .before .before .add-word .ensures)))
 
 pub add-place-spec : {M : Type 1} → statement M
 add-place-spec =

@@ -26,10 +26,14 @@ same-length c = search needs
 returns : tie.Need-returns
 unfolding reportOf
 returns c =
-    let r = c .before .before .before .before .before .before .before .before .before .before .before .before .before .before .before .before .args .r in
+    let r =
+    c .before .before .before .before .before .before .before .before
+    .before .before .before .before .before .before .before .before .args .r in
     let l : length (r .condition .codes) ≡ 40 = search needs in
-    printed r (both-added (c .before .before .before .before .before .before .before .before .before .before .add-cells .ensures) (c .before .before .before .before .before .before .add-place .ensures)) (c .before .before .add-end .ensures)
-    (le-trans (shown-length r l) (c .before .before .before .before .before .before .before .before .before .before .before .before .before .before .before .before .pre))
+    let p = c .before .before .before .before .before .before in
+    let s = p .before .before .before .before in
+    printed r (both-added (s .add-cells .ensures) (p .add-place .ensures)) (c .before .before .add-end .ensures)
+    (le-trans (shown-length r l) (s .before .before .before .before .before .before .pre))
 
 pub add-shown-spec : {M : Type 1} → statement M
 add-shown-spec =

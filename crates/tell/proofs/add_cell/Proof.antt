@@ -28,8 +28,10 @@ same-length c = search needs
 returns : tie.Need-returns
 unfolding cellLine
 returns c =
-    both-added (c .before .before .before .before .before .before .before .before .before .before .before .add-number .ensures)
-    (both-added (rw (c .before .before .before .before .before .before .before .before .before .before .before .before .before .before .view .ensures) at (c .before .before .before .before .before .before .before .add-shows .ensures)) (c .before .before .add-word .ensures))
+    let s = c .before .before .before .before .before .before .before in
+    let n = s .before .before .before .before in
+    let shown = rw (n .before .before .before .view .ensures) at (s .add-shows .ensures) in
+    both-added (n .add-number .ensures) (both-added shown (c .before .before .add-word .ensures))
 
 pub add-cell-spec : {M : Type 1} → statement M
 add-cell-spec =

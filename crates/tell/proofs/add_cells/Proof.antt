@@ -29,8 +29,9 @@ loop-less c = search needs
 
 loop-again : tie.Need-loop-again Inv-loop μ-loop
 loop-again c =
-    let l = c .before .before .before .before .before .loop in
-    (omega (arith, c .before .before .before .before .loop-test .taken), each-added _ (l .p) (l .inv .1) (c .before .before .add-cell .ensures))
+    let t = c .before .before .before .before in
+    let l = t .before .loop in
+    (omega (arith, t .loop-test .taken), each-added _ (l .p) (l .inv .1) (c .before .before .add-cell .ensures))
 
 same-length : tie.Need-same-length Inv-loop μ-loop
 same-length c = same-added (c .before .loop .inv .1)

@@ -42,8 +42,10 @@ loop-less c = search needs
 loop-again : tie.Need-loop-again Inv-loop μ-loop
 unfolding dotText
 loop-again c =
-    let l = c .before .before .before .before .before .before .before .before .loop in
-    (omega (arith, c .before .before .before .before .before .before .before .loop-test .taken), each-added _ (l .i) (l .inv .1) (rw (c .before .before .before .before .before .before .dot .ensures) at (c .before .before .add-number .ensures)))
+    let d = c .before .before .before .before .before .before in
+    let l = d .before .before .loop in
+    let text = rw (d .dot .ensures) at (c .before .before .add-number .ensures) in
+    (omega (arith, d .before .loop-test .taken), each-added _ (l .i) (l .inv .1) text)
 
 same-length : tie.Need-same-length Inv-loop μ-loop
 same-length c = same-added (c .before .loop .inv .1)

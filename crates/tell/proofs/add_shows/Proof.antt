@@ -75,7 +75,10 @@ same-length-4 c = search needs
 
 returns-4 : tie.Need-returns-4
 unfolding showsText
-returns-4 c = rw (c .before .before .before .before .before .before .before .before .before .before .before .s2 .given .1) (both-added (c .before .before .before .before .before .before .before .add-hex2 .ensures) (c .before .before .add-number .ensures))
+returns-4 c =
+    let h = c .before .before .before .before .before .before .before in
+    let coded = both-added (h .add-hex2 .ensures) (c .before .before .add-number .ensures) in
+    rw (h .before .before .before .before .s2 .given .1) coded
 
 pub add-shows-spec : {M : Type 1} → statement M
 add-shows-spec =

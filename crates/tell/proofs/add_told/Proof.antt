@@ -21,9 +21,11 @@ same-length c = search needs
 returns : tie.Need-returns
 unfolding reportOf
 returns c =
-    let r = c .before .before .before .before .before .before .before .before .before .before .before .before .before .before .args .r in
-    printed r (both-added (c .before .before .before .before .before .before .before .before .before .before .add-cells .ensures) (c .before .before .before .before .before .before .add-users .ensures)) (c .before .before .add-end .ensures)
-    (le-trans (told-length r) (c .before .before .before .before .before .before .before .before .before .before .before .before .before .before .pre))
+    let u = c .before .before .before .before .before .before in
+    let s = u .before .before .before .before in
+    let f = s .before .before .before .before in
+    printed (f .args .r) (both-added (s .add-cells .ensures) (u .add-users .ensures)) (c .before .before .add-end .ensures)
+    (le-trans (told-length (f .args .r)) (f .pre))
 
 pub add-told-spec : {M : Type 1} → statement M
 add-told-spec =

@@ -55,12 +55,18 @@ same-length c = search needs
 returns : tie.Need-returns
 unfolding userLine
 returns c =
-    let u = rw (c .before .before .before .before .before .before .before .before .before .before .before .before .before .before .before .before .before .before .before .before .before .before .before .before .before .before .before .before .before .before .before .before .underline .ensures) at (c .before .before .before .before .before .before .before .before .before .before .before .before .before .add-number .ensures) in
-    let l = rw (c .before .before .before .before .before .before .before .before .before .before .before .before .before .before .before .before .before .before .before .before .before .before .before .before .before .before .before .before .before .before .before .lit .ensures) at (c .before .before .before .before .before .before .before .add-number2 .ensures) in
-    both-added (c .before .before .before .before .before .before .before .before .before .before .before .before .before .before .before .before .before .before .before .before .before .before .before .before .before .before .before .before .add-hex .ensures)
-    (both-added (c .before .before .before .before .before .before .before .before .before .before .before .before .before .before .before .before .before .before .before .before .before .before .before .add-word .ensures)
-    (both-added (c .before .before .before .before .before .before .before .before .before .before .before .before .before .before .before .before .before .before .before .add-dots .ensures)
-    (both-added u (both-added l (c .before .before .add-word2 .ensures)))))
+    let m = c .before .before .before .before .before .before .before in
+    let n = m .before .before .before .before .before .before in
+    let d = n .before .before .before .before .before .before in
+    let w = d .before .before .before .before in
+    let h = w .before .before .before .before .before in
+    let l = h .before .before .before in
+    let underlined = rw (l .before .underline .ensures) at (n .add-number .ensures) in
+    let lit = rw (l .lit .ensures) at (m .add-number2 .ensures) in
+    both-added (h .add-hex .ensures)
+    (both-added (w .add-word .ensures)
+    (both-added (d .add-dots .ensures)
+    (both-added underlined (both-added lit (c .before .before .add-word2 .ensures)))))
 
 pub add-user-spec : {M : Type 1} → statement M
 add-user-spec =

@@ -31,7 +31,9 @@ add-user-requires : tie.Need-add-user-requires Inv-loop μ-loop
 add-user-requires c κs = search needs
 
 add-i : tie.Need-add-i Inv-loop μ-loop
-add-i c = omega (arith, c .before .before .before .before .loop-test .taken, c .before .before .before .before .before .before .held .ensures .1)
+add-i c =
+    let t = c .before .before .before .before in
+    omega (arith, t .loop-test .taken, t .before .before .held .ensures .1)
 
 loop-less : tie.Need-loop-less Inv-loop μ-loop
 loop-less c = omega (arith, c .before .before .before .before .loop-test .taken)
@@ -39,8 +41,9 @@ loop-less c = omega (arith, c .before .before .before .before .loop-test .taken)
 loop-again : tie.Need-loop-again Inv-loop μ-loop
 unfolding placeLine
 loop-again c =
-    let l = c .before .before .before .before .before .loop in
-    (omega (arith, c .before .before .before .before .loop-test .taken), each-added _ (l .i) (l .inv .1) (c .before .before .add-user .ensures))
+    let t = c .before .before .before .before in
+    let l = t .before .loop in
+    (omega (arith, t .loop-test .taken), each-added _ (l .i) (l .inv .1) (c .before .before .add-user .ensures))
 
 same-length : tie.Need-same-length Inv-loop μ-loop
 same-length c = same-added (c .before .loop .inv .1)

@@ -1,0 +1,27 @@
+use Rattle.condition.specs.Condition.{powerUpAnswer}
+use borrow.Author.Needs.{needs}
+use Rattle.show.proofs.show.Statement.{statement}
+use Rattle.show.proofs.show.Tie as tie
+
+power-up-requires : tie.Need-power-up-requires
+power-up-requires c κs = search needs
+
+run-requires : tie.Need-run-requires
+run-requires c κs = search needs
+
+add-shown-requires : tie.Need-add-shown-requires
+add-shown-requires c κs = search needs
+
+same-length : tie.Need-same-length
+same-length c = search needs
+
+returns : tie.Need-returns
+unfolding powerUpAnswer
+returns c =
+    let p = c .before .before .before .before .before .before .power-up .ensures in
+    let a = rw p at (c .before .before .before .before .run .ensures .answer) in
+    rw a at (c .before .before .add-shown .ensures)
+
+pub show-spec : {M : Type 1} → statement M
+show-spec =
+    tie.close (tie.spec power-up-requires run-requires add-shown-requires same-length returns)
