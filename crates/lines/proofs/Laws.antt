@@ -5,7 +5,8 @@ use mathlib.Core.Bool.{Bool, true, false, cond}
 use mathlib.Core.List.{List, [], _∷_, _++_, append-assoc, append-nil}
 use native.Mathlib.Omega.{arith}
 use native.Mathlib.Numerals.{add-one}
-use native.Mathlib.Nat.{add-zero, zero-min, min-zero, suc-min-suc, div-lt-iff-lt-mul, pow-suc, mod-eq-of-lt, mod-lt, le-trans, le-div-iff-mul-le, pow-le-pow-right}
+use native.Mathlib.Nat.{add-zero, zero-min, min-zero, suc-min-suc, le-trans, mod-eq-of-lt, mod-lt}
+use native.Mathlib.Nat.{div-lt-iff-lt-mul, le-div-iff-mul-le, pow-suc, pow-le-pow-right}
 use lib.Dec.{eqb, ltb, leb, lit<}
 use lib.ListN.{length, take, drop, length-append, length-take, length-drop, drop-of-length-le, take-append-drop}
 use lib.Seq.{take-at, take-all, take-nil, drop-nil, take-append-add, drop-append-add, length-take-le}
@@ -15,7 +16,7 @@ use Rattle.laws.proofs.Lists.{tail-part}
 use Rattle.row.specs.Row.{laid}
 use Rattle.io.specs.Digits.{digits, Fewest}
 use Rattle.interpreter.specs.declared.Ran.{Ran}
-use Rattle.lines.specs.Lines.{Added, each, decimalIn, decimalOf, tallyLine, refusedLine, endStart, endOf, printOf}
+use Rattle.lines.specs.Lines.{Added, each, digit, decimalIn, decimalOf, tallyLine, refusedLine, endStart, endOf, printOf}
 
 -- over no place nothing is laid, and of no text nothing
 laid-none : (x : List ℕ) → laid x [] ≡ []
@@ -27,7 +28,8 @@ unfolding laid
 laid-empty s = rw (take-nil {A = ℕ} (length s))
 
 -- a text over the start of a row, and then another after it
-laid-both : (x y s : List ℕ) → take (min (length x) (length s)) (laid x s) ++ laid y (drop (min (length x) (length s)) (laid x s)) ≡ laid (x ++ y) s
+laid-both : (x y s : List ℕ)
+    → take (min (length x) (length s)) (laid x s) ++ laid y (drop (min (length x) (length s)) (laid x s)) ≡ laid (x ++ y) s
 unfolding laid
 laid-both [] y s = rw (zero-min (length s), take-nil {A = ℕ} (length s))
 laid-both (b ∷ x) y [] = rw (min-zero (suc (length x)), drop-nil {A = ℕ} (length y))
@@ -49,7 +51,8 @@ both-text a x y k = go (leb k (length a)) refl
         let l : length p ≡ k = length-take-le k a (leb-true k (length a) e) in
         let g : take (k + n) (p ++ laid x s) ≡ p ++ take n (laid x s) = rw l at (take-append-add p (laid x s) n) in
         let h : drop (k + n) (p ++ laid x s) ≡ drop n (laid x s) = rw l at (drop-append-add p (laid x s) n) in
-        rw (g, h, append-assoc p (take n (laid x s)) (laid y (drop n (laid x s))), f) (ap (λ (l : List ℕ). p ++ l) (laid-both x y s))
+        rw (g, h, append-assoc p (take n (laid x s)) (laid y (drop n (laid x s))), f)
+        (ap (λ (l : List ℕ). p ++ l) (laid-both x y s))
     go false e =
         let h : length a < k = leb-false k (length a) e in
         let z : length a - k ≡ 0 = omega arith in
@@ -84,7 +87,8 @@ past-added a x k h =
     let d : drop k a ≡ [] = drop-of-length-le a {i = k} h in
     record { next = omega arith; text = rw (d, laid-none x, take-all k a h, append-nil a) }
 
-pub word-added : (a x last : List ℕ) (k r : ℕ) → last ≡ laid x (take (length a - k) (drop k a)) → r ≡ k + min (length x) (length a - k)
+pub word-added : (a x last : List ℕ) (k r : ℕ) → last ≡ laid x (take (length a - k) (drop k a))
+    → r ≡ k + min (length x) (length a - k)
     → Added a k x (take k a ++ (last ++ postOf k (length a - k) a)) r
 word-added a x last k r e n =
     let l : length (drop k a) ≤ length a - k = omega (arith, length-drop k a) in
@@ -98,14 +102,17 @@ pub none-added : (a : List ℕ) (k : ℕ) → Added a k [] a k
 none-added a k = record { next = omega arith; text = rw (laid-empty (drop k a)) (sym (take-append-drop k a)) }
 
 -- one more of a row of texts
-pub each-added : {a b d : List ℕ} {k m r : ℕ} (f : ℕ → List ℕ) (n : ℕ) → Added a k (each f n) b m → Added b m (f n) d r → Added a k (each f (n + 1)) d r
+pub each-added : {a b d : List ℕ} {k m r : ℕ} (f : ℕ → List ℕ) (n : ℕ) → Added a k (each f n) b m → Added b m (f n) d r
+    → Added a k (each f (n + 1)) d r
 unfolding each
 each-added f n p q = rw (add-one n) (both-added p q)
 
 pub each-length : (f : ℕ → List ℕ) (m n : ℕ) → ((i : ℕ) → length (f i) ≤ m) → length (each f n) ≤ n * m
 unfolding each
 each-length f m zero h = omega arith
-each-length f m (suc n) h = let l : length (each f n) ≤ n * m = each-length f m n h in omega (arith, length-append (each f n) (f n), h n)
+each-length f m (suc n) h =
+    let l : length (each f n) ≤ n * m = each-length f m n h in
+    omega (arith, length-append (each f n) (f n), h n)
 
 -- a text with room for all of it
 pub whole-added : {a b : List ℕ} {x : List ℕ} {r : ℕ} → Added a 0 x b r → length x ≤ length a → (take r b ≡ x) × (r ≤ length b)
@@ -150,8 +157,10 @@ digits-decimal (suc f) (suc (suc r)) n h l =
     let big : 10 ^ suc r ≤ n = rw e at (h .2 (omega arith)) in
     let ten : 10 ≤ n = le-trans (ten-below r) big in
     let low : n % 10 < 10 = mod-lt n (lit< tt) in
-    let fewer : Fewest 10 1 (n / 10) (suc r) = (omega arith, div-lt-iff-lt-mul (lit< tt) .1 (rw (pow-suc 10 (suc r)) at (h .1)), λ _. tenth r n big) in
-    rw (le-ltb n 10 ten, lt-ltb (n % 10) 10 low) (ap (λ (x : List ℕ). x ++ (48 + n % 10) ∷ []) (digits-decimal f (suc r) (n / 10) fewer (omega arith)))
+    let fewer : Fewest 10 1 (n / 10) (suc r) =
+    (omega arith, div-lt-iff-lt-mul (lit< tt) .1 (rw (pow-suc 10 (suc r)) at (h .1)), λ _. tenth r n big) in
+    let first = digits-decimal f (suc r) (n / 10) fewer (omega arith) in
+    rw (le-ltb n 10 ten, lt-ltb (n % 10) 10 low) (ap (λ (x : List ℕ). x ++ digit (n % 10) ∷ []) first)
 
 -- a number of 64 bits has at most 20 digits
 fewest-20 : (n r : ℕ) → Fewest 10 1 n r → n < 2 ^ 64 → r ≤ 20
@@ -174,9 +183,10 @@ unfolding decimalIn
 decimal-in-length zero n = omega arith
 decimal-in-length (suc f) n = go (decimal-in-length f (n / 10)) (ltb n 10)
   where
-    go : length (decimalIn f (n / 10)) ≤ f → (t : Bool) → length (cond t ((48 + n) ∷ []) (decimalIn f (n / 10) ++ ((48 + n % 10) ∷ []))) ≤ suc f
+    go : length (decimalIn f (n / 10)) ≤ f → (t : Bool)
+        → length (cond t (digit n ∷ []) (decimalIn f (n / 10) ++ digit (n % 10) ∷ [])) ≤ suc f
     go h true = omega arith
-    go h false = omega (arith, length-append (decimalIn f (n / 10)) ((48 + n % 10) ∷ []))
+    go h false = omega (arith, length-append (decimalIn f (n / 10)) (digit (n % 10) ∷ []))
 
 pub decimal-length : (n : ℕ) → length (decimalOf n) ≤ 20
 unfolding decimalOf
@@ -188,5 +198,7 @@ unfolding printOf tallyLine refusedLine
 print-length body r = go (eqb (r .refusal) 0)
   where
     go : (t : Bool) → length (cond t (body ++ tallyLine (r .tally)) (refusedLine (r .refusal))) ≤ length body + 86
-    go true = simp length-append (omega (arith, decimal-length (r .tally .bytes), decimal-length (r .tally .busy), decimal-length (r .tally .flickerless)))
+    go true =
+        let t = r .tally in
+        simp length-append (omega (arith, decimal-length (t .bytes), decimal-length (t .busy), decimal-length (t .flickerless)))
     go false = simp length-append (omega (arith, decimal-length (r .refusal)))

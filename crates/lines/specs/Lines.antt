@@ -28,9 +28,13 @@ unfoldable pub each : (ℕ → List ℕ) → ℕ → List ℕ
 each f zero = []
 each f (suc n) = each f n ++ f n
 
+-- a digit below ten
+abbrev pub digit : ℕ → ℕ
+digit n = code "0" + n
+
 -- upper-case hex: 0 to 9, A to F
 unfoldable pub hexDigit : ℕ → ℕ
-hexDigit n = cond (ltb n 10) (code "0" + n) (code "A" + (n - 10))
+hexDigit n = cond (ltb n 10) (digit n) (code "A" + (n - 10))
 
 -- a byte in two digits
 abbrev pub hexOf : ℕ → List ℕ
@@ -39,7 +43,7 @@ hexOf b = hexDigit (b / 16) ∷ hexDigit (b % 16) ∷ []
 -- a number in decimal, of at most f digits
 unfoldable pub decimalIn : ℕ → ℕ → List ℕ
 decimalIn zero n = []
-decimalIn (suc f) n = cond (ltb n 10) ((code "0" + n) ∷ []) (decimalIn f (n / 10) ++ ((code "0" + n % 10) ∷ []))
+decimalIn (suc f) n = cond (ltb n 10) (digit n ∷ []) (decimalIn f (n / 10) ++ digit (n % 10) ∷ [])
 
 unfoldable pub decimalOf : ℕ → List ℕ
 decimalOf n = decimalIn 20 n

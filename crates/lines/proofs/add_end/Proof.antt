@@ -26,8 +26,9 @@ same-length c = search needs
 returns : tie.Need-returns
 unfolding endStart endOf refusedLine
 returns c =
-    rw (ne-eqb _ _ (c .before .before .before .before .before .before .before .before .before .before .before .if1 .taken))
-    (both-added (c .before .before .before .before .before .before .before .add-number .ensures) (c .before .before .add-word .ensures))
+    let n = c .before .before .before .before .before .before .before in
+    rw (ne-eqb _ _ (n .before .before .before .before .if1 .taken))
+    (both-added (n .add-number .ensures) (c .before .before .add-word .ensures))
 
 slice-aggregate-add-number-2 : tie.Need-slice-aggregate-add-number-2
 slice-aggregate-add-number-2 c = search needs
@@ -68,11 +69,12 @@ same-length-2 c = search needs
 returns-2 : tie.Need-returns-2
 unfolding endStart endOf tallyLine
 returns-2 c =
-    let p = c .before .before .before .before .before .before .before .before .before .before .before .before .before .before .before .before .before .before .before .add-number2 .ensures in
-    let q = c .before .before .before .before .before .before .before .before .before .before .before .before .before .add-number3 .ensures in
-    let s = c .before .before .before .before .before .before .before .add-number4 .ensures in
-    rw (eq-eqb _ _ (c .before .before .before .before .before .before .before .before .before .before .before .before .before .before .before .before .before .before .before .before .before .before .before .before .if1 .left))
-    (both-added p (both-added q (both-added s (c .before .before .add-word2 .ensures))))
+    let f = c .before .before .before .before .before .before .before in
+    let t = f .before .before .before .before .before .before in
+    let b = t .before .before .before .before .before .before in
+    rw (eq-eqb _ _ (b .before .before .before .before .before .if1 .left))
+    (both-added (b .add-number2 .ensures)
+    (both-added (t .add-number3 .ensures) (both-added (f .add-number4 .ensures) (c .before .before .add-word2 .ensures))))
 
 pub add-end-spec : {M : Type 1} → statement M
 add-end-spec =

@@ -23,9 +23,10 @@ same-length c = search needs
 
 returns : tie.Need-returns
 returns c =
-    let w = c .before .before .before .before .before .before .before .add-word .ensures in
-    let h = c .before .before .add-word2 .ensures in
-    both-added w (rw (c .before .before .before .before .before .before .before .before .before .before .hex-digit .ensures, c .before .before .before .before .before .before .before .before .before .hex-digit2 .ensures) at h)
+    let w = c .before .before .before .before .before .before .before in
+    let d = w .before .before in
+    both-added (w .add-word .ensures)
+    (rw (d .before .hex-digit .ensures, d .hex-digit2 .ensures) at (c .before .before .add-word2 .ensures))
 
 pub add-hex-spec : {M : Type 1} → statement M
 add-hex-spec =

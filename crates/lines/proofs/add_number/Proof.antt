@@ -23,9 +23,10 @@ same-length c = search needs
 
 returns : tie.Need-returns
 returns c =
-    let d = c .before .before .before .before .before .before .before .before .before .decimal in
-    let w = c .before .before .before .before .before .before .before .add-word .ensures in
-    both-added w (rw (decimal-is (d .last .1 .0) _ (d .result) (d .ensures .1 .0) (search needs) (d .ensures .1 .1)) at (c .before .before .add-word2 .ensures))
+    let w = c .before .before .before .before .before .before .before in
+    let d = w .before .before .decimal in
+    let e = decimal-is (d .last .1 .0) _ (d .result) (d .ensures .1 .0) (search needs) (d .ensures .1 .1) in
+    both-added (w .add-word .ensures) (rw e at (c .before .before .add-word2 .ensures))
 
 pub add-number-spec : {M : Type 1} → statement M
 add-number-spec =
