@@ -12,46 +12,47 @@ use Rattle.glass.specs.declared.Answer.{Answer}
 use Rattle.glass.specs.Answers.{viewAnswer, dotAnswer, underlineAnswer, litAnswer}
 use Rattle.glass.proofs.Refusals.{view-unformed, dot-unformed, underline-unformed, lit-unformed}
 use Rattle.layout.specs.Layout.{conditionIn}
-use Rattle.sign.specs.Host.{openedOf}
-use Rattle.sign.specs.Questions.{showsNumber, askedAs, hostAsked, hostTold, hostView, hostDot, hostUnderline, hostLit}
+use Rattle.sign.specs.Host.{openedOf, hostAnswer}
+use Rattle.sign.specs.Questions.{showsNumber, hostAsked, hostTold, hostView, hostDot, hostUnderline, hostLit}
 use Rattle.sign.proofs.Hosted.{damaged-by, in-block, left-to}
 
 module _ (b : List ℕ) (g : Outcome) (o : g ≡ openedOf b) where
   -- the block is damaged, whatever is asked
-  pub asked-damaged : (n v x : ℕ) → (g .refusal ≡ 0 → ⊥) → askedAs (g .refusal) x ≡ hostAsked b n v
-  unfolding hostAsked askedAs
-  asked-damaged n v x bad = rw (damaged-by b g o n bad) (simp (ne-eqb (g .refusal) 0 bad))
+  pub asked-damaged : (n v : ℕ) → (g .refusal ≡ 0 → ⊥) → hostAnswer 65536 (g .refusal) 0 ≡ hostAsked b n v
+  unfolding hostAsked hostAnswer
+  asked-damaged n v bad = rw (damaged-by b g o n bad) (simp (ne-eqb (g .refusal) 0 bad))
 
   -- it is not, and the question is asked of the condition that stands there
   module _ (z : g .refusal ≡ 0) where
-    asked-read : {A : Type 0} (ask : Condition → A) (number value : A → ℕ)
+    asked-in : {A : Type 0} (ask : Condition → A) (number value : A → ℕ)
         → (wellFormed (conditionIn b) ≡ false → number (ask (conditionIn b)) ≡ 3)
         → (a : A) → a ≡ ask (g .condition)
-        → askedAs (number a) (value a) ≡ hostAsked b (number (ask (conditionIn b))) (value (ask (conditionIn b)))
+        → hostAnswer 65536 (number a) (value a) ≡ hostAsked b (number (ask (conditionIn b))) (value (ask (conditionIn b)))
     unfolding hostAsked
-    asked-read ask number value u a e = rw (e ∙ ap ask (in-block b g o z), left-to b g o z _ u)
+    asked-in ask number value u a e = rw (e ∙ ap ask (in-block b g o z), left-to b g o z _ u)
 
-    told-read : (ask : Condition → Answer) → (wellFormed (conditionIn b) ≡ false → ask (conditionIn b) .refusal ≡ 3)
-        → (a : Answer) → a ≡ ask (g .condition) → askedAs (a .refusal) (a .value) ≡ hostTold b (ask (conditionIn b))
-    told-read ask = asked-read ask (λ (a : Answer). a .refusal) (λ (a : Answer). a .value)
+    told-in : (ask : Condition → Answer) → (wellFormed (conditionIn b) ≡ false → ask (conditionIn b) .refusal ≡ 3)
+        → (a : Answer) → a ≡ ask (g .condition) → hostAnswer 65536 (a .refusal) (a .value) ≡ hostTold b (ask (conditionIn b))
+    told-in ask = asked-in ask (λ (a : Answer). a .refusal) (λ (a : Answer). a .value)
 
-    pub view-read : (position : ℕ) (s : Seen) → s ≡ viewAnswer (g .condition) position
-        → askedAs (s .refusal) (showsNumber (s .shows)) ≡ hostView b position
+    pub view-in : (position : ℕ) (s : Seen) → s ≡ viewAnswer (g .condition) position
+        → hostAnswer 65536 (s .refusal) (showsNumber (s .shows)) ≡ hostView b position
     unfolding hostView
-    view-read position =
-        asked-read (λ (c : Condition). viewAnswer c position) (λ (s : Seen). s .refusal) (λ (s : Seen). showsNumber (s .shows))
+    view-in position =
+        asked-in (λ (c : Condition). viewAnswer c position) (λ (s : Seen). s .refusal) (λ (s : Seen). showsNumber (s .shows))
         (λ w. view-unformed (conditionIn b) w position)
 
-    pub dot-read : (code k : ℕ) (a : Answer) → a ≡ dotAnswer (g .condition) code k
-        → askedAs (a .refusal) (a .value) ≡ hostDot b code k
+    pub dot-in : (code k : ℕ) (a : Answer) → a ≡ dotAnswer (g .condition) code k
+        → hostAnswer 65536 (a .refusal) (a .value) ≡ hostDot b code k
     unfolding hostDot
-    dot-read code k = told-read (λ (c : Condition). dotAnswer c code k) (λ w. dot-unformed (conditionIn b) w code k)
+    dot-in code k = told-in (λ (c : Condition). dotAnswer c code k) (λ w. dot-unformed (conditionIn b) w code k)
 
-    pub underline-read : (code : ℕ) (a : Answer) → a ≡ underlineAnswer (g .condition) code
-        → askedAs (a .refusal) (a .value) ≡ hostUnderline b code
+    pub underline-in : (code : ℕ) (a : Answer) → a ≡ underlineAnswer (g .condition) code
+        → hostAnswer 65536 (a .refusal) (a .value) ≡ hostUnderline b code
     unfolding hostUnderline
-    underline-read code = told-read (λ (c : Condition). underlineAnswer c code) (λ w. underline-unformed (conditionIn b) w code)
+    underline-in code = told-in (λ (c : Condition). underlineAnswer c code) (λ w. underline-unformed (conditionIn b) w code)
 
-    pub lit-read : (code : ℕ) (a : Answer) → a ≡ litAnswer (g .condition) code → askedAs (a .refusal) (a .value) ≡ hostLit b code
+    pub lit-in : (code : ℕ) (a : Answer) → a ≡ litAnswer (g .condition) code
+        → hostAnswer 65536 (a .refusal) (a .value) ≡ hostLit b code
     unfolding hostLit
-    lit-read code = told-read (λ (c : Condition). litAnswer c code) (λ w. lit-unformed (conditionIn b) w code)
+    lit-in code = told-in (λ (c : Condition). litAnswer c code) (λ w. lit-unformed (conditionIn b) w code)

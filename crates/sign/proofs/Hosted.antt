@@ -3,7 +3,7 @@ use mathlib.Core.Path.{_≡_, refl, sym, ap, _∙_, subst}
 use mathlib.Core.Logic.{_⊎_, inl, inr, ⊎-elim}
 use mathlib.Core.Bool.{Bool, true, false, cond, not}
 use mathlib.Core.List.{List}
-use Prim.Native.Nat.{ℕ, _+_}
+use Prim.Native.Nat.{ℕ, _+_, _<_}
 use native.Mathlib.Omega.{arith}
 use lib.Dec.{eqb, leb}
 use lib.ListN.{length, take}
@@ -27,8 +27,7 @@ use Rattle.block.proofs.Damaged.{read-by, whole-length, whole-unpacked}
 use Rattle.block.proofs.RoundTrip.{refusal-of, reread}
 use Rattle.interpreter.specs.declared.Tally.{Tally}
 use Rattle.interpreter.specs.declared.Ran.{Ran}
-use Rattle.condition.specs.Bytes.{runOf}
-use Rattle.interpreter.specs.Run.{RunPromise, refusedOf, tallied, runRefusal, runAnswer}
+use Rattle.interpreter.specs.Run.{RunPromise, acceptedOf, refusedOf, runRefusal, runAnswer}
 use Rattle.interpreter.proofs.Answers.{run-unformed}
 use Rattle.planner.specs.declared.Planned.{Planned}
 use Rattle.planner.specs.Answer.{bytesBy, Promise, Plans, PlansFonts}
@@ -87,19 +86,19 @@ ran-sized : (c : Condition) (t : Tally) (bs : List ℕ) → Sized c → Sized (r
 unfolding runAnswer
 ran-sized c t bs s = go (eqb (runRefusal c t bs) 0)
   where
-    go : (k : Bool) → Sized (cond k (record { refusal = 0; condition = runOf c bs; tally = tallied t c bs }) (refusedOf (runRefusal c t bs) c t) .condition)
+    go : (k : Bool) → Sized (cond k (acceptedOf c t bs) (refusedOf (runRefusal c t bs) c t) .condition)
     go true = run-sized c bs s
     go false = s
 
 pub run-short : (b t bs : List ℕ) → (length t ≡ 12 → ⊥) → HostRun b t bs 1 b t
-unfolding hostRunRefusal blockAfter tallyAfter
+unfolding hostRefusalBy hostRunRefusal blockAfter tallyAfter
 run-short b t bs h =
     let e = ne-eqb (length t) 12 h in
     record { answer = simp e; block = simp e; tally = simp e; again = λ z. let q : ⊥ = omega arith in absurd q }
 
 module _ (b t bs : List ℕ) (h : length t ≡ 12) where
   by-block : hostRunRefusal b t bs ≡ hostRefusalBy true b (ranOf b t bs .refusal)
-  unfolding hostRunRefusal hostRefusalBy
+  unfolding hostRunRefusal
   by-block = rw (eq-eqb (length t) 12 h)
 
   -- refused, by its number: nothing changes
@@ -156,24 +155,29 @@ module _ (b t bs : List ℕ) (h : length t ≡ 12) where
 -- a call that is refused for its lengths, or for the block, or by the planner
 module _ (b : List ℕ) (n : ℕ) (bytes : List ℕ) (For : List ℕ → Type 0) (out : List ℕ) (long : Bool) where
   -- the refusal number of the call, and an answer by it
-  refused-by : (number k : ℕ) → number ≡ k → (k ≡ 0 → ⊥) → HostPromise number bytes For out (256 + k) out
+  refused-by : (number k : ℕ) → number ≡ k → (k ≡ 0 → ⊥) → HostPromise number bytes For out (hostAnswer 256 k 0) out
   unfolding hostAnswer bytesBy
   refused-by number k e bad =
-      let t : eqb number 0 ≡ false = rw e (ne-eqb k 0 bad) in
-      record { answer = rw (t, e); buffer = rw t; delivers = λ l. absurd (omega arith) }
+      let t = ne-eqb k 0 bad in
+      record {
+        answer = rw (e, t);
+        buffer = rw (e, t);
+        delivers = λ l. let z : 256 + k < 256 = rw t at l in absurd (omega arith);
+      }
 
-  pub plan-short : long ≡ false → HostPromise (hostRefusalBy long b n) bytes For out (256 + 1) out
+  pub plan-short : long ≡ false → HostPromise (hostRefusalBy long b n) bytes For out (hostAnswer 256 1 0) out
   unfolding hostRefusalBy
   plan-short e = refused-by _ 1 (rw e) (λ z. omega arith)
 
   module _ (fit : long ≡ true) (g : Outcome) (o : g ≡ openedOf b) where
-    pub plan-damaged : (g .refusal ≡ 0 → ⊥) → HostPromise (hostRefusalBy long b n) bytes For out (256 + g .refusal) out
+    pub plan-damaged : (g .refusal ≡ 0 → ⊥)
+        → HostPromise (hostRefusalBy long b n) bytes For out (hostAnswer 256 (g .refusal) 0) out
     plan-damaged bad = refused-by _ (g .refusal) (rw fit (damaged-by b g o n bad)) bad
 
     -- what the planner promises, given on
     pub plan-done : (r : Planned) (k : ℕ) (left : List ℕ) → g .refusal ≡ 0 → (wellFormed (conditionIn b) ≡ false → n ≡ 3)
         → Promise n bytes For out left r
-        → k ≡ hostAnswer (r .refusal) (r .length) → HostPromise (hostRefusalBy long b n) bytes For out k left
+        → k ≡ hostAnswer 256 (r .refusal) (r .length) → HostPromise (hostRefusalBy long b n) bytes For out k left
     unfolding hostAnswer bytesBy
     plan-done r k left ok u q e =
         rw (fit, left-to b g o ok n u)
@@ -188,13 +192,13 @@ module _ (b : List ℕ) (n : ℕ) (bytes : List ℕ) (For : List ℕ → Type 0)
 
 -- the planner's promise of the condition at hand, as one of the condition in the block
 module _ (b : List ℕ) (c : Condition) (e : c ≡ conditionIn b) where
-  pub plan-read : (w : List ℕ) (k : ℕ) (out left : List ℕ) (r : Planned) → Plans c w k out left r
+  pub plan-in : (w : List ℕ) (k : ℕ) (out left : List ℕ) (r : Planned) → Plans c w k out left r
       → Plans (conditionIn b) w k out left r
-  plan-read w k out left r = subst (λ (c : Condition). Plans c w k out left r) e
+  plan-in w k out left r = subst (λ (c : Condition). Plans c w k out left r) e
 
-  pub fonts-read : (w f : List ℕ) (k : ℕ) (out left : List ℕ) (r : Planned) → PlansFonts c w f k out left r
+  pub fonts-in : (w f : List ℕ) (k : ℕ) (out left : List ℕ) (r : Planned) → PlansFonts c w f k out left r
       → PlansFonts (conditionIn b) w f k out left r
-  fonts-read w f k out left r = subst (λ (c : Condition). PlansFonts c w f k out left r) e
+  fonts-in w f k out left r = subst (λ (c : Condition). PlansFonts c w f k out left r) e
 
 -- ---- power-up
 
@@ -206,13 +210,16 @@ unpowered : (font : ℕ) → leb font 1 ≡ false → powerUpAnswer font ≡ rec
 unfolding powerUpAnswer
 unpowered font h = rw h
 
-pub power-up-refused : (font : ℕ) (out : List ℕ) (g : Outcome) → g ≡ powerUpAnswer font → (g .refusal ≡ 0 → ⊥) → HostPowerUp font out (g .refusal) out
+pub power-up-refused : (font : ℕ) (out : List ℕ) (g : Outcome) → g ≡ powerUpAnswer font → (g .refusal ≡ 0 → ⊥)
+    → HostPowerUp font out (g .refusal) out
 unfolding hostPowerUpRefusal hostPowerUpOut
 power-up-refused font out g e bad = go (leb font 1) refl
   where
     go : (t : Bool) → leb font 1 ≡ t → HostPowerUp font out (g .refusal) out
     go true h = absurd (bad (ap (λ (o : Outcome). o .refusal) (e ∙ powered font h)))
-    go false h = record { answer = simp h (ap (λ (o : Outcome). o .refusal) (e ∙ unpowered font h)); buffer = simp h; again = λ z. absurd (bad z) }
+    go false h =
+        let three = ap (λ (o : Outcome). o .refusal) (e ∙ unpowered font h) in
+        record { answer = simp h three; buffer = simp h; again = λ z. absurd (bad z) }
 
 -- what writing power-up gives, where the font is 0 or 1
 power-up-out : (font : ℕ) (out : List ℕ) (r : Written) (left : List ℕ) → leb font 1 ≡ true → WritePromise (powerUp font) out r left
@@ -226,8 +233,8 @@ power-up-out font out r left h w =
       again = λ z. sym (refusal-of (take 512 left)) ∙ ap (λ (o : Outcome). o .refusal) (w .back z);
     }
 
-pub power-up-written : (font : ℕ) (out : List ℕ) (g : Outcome) (r : Written) (left : List ℕ) → g ≡ powerUpAnswer font → g .refusal ≡ 0
-    → WritePromise (g .condition) out r left → HostPowerUp font out (r .refusal) left
+pub power-up-written : (font : ℕ) (out : List ℕ) (g : Outcome) (r : Written) (left : List ℕ) → g ≡ powerUpAnswer font
+    → g .refusal ≡ 0 → WritePromise (g .condition) out r left → HostPowerUp font out (r .refusal) left
 power-up-written font out g r left e good w = go (leb font 1) refl
   where
     go : (t : Bool) → leb font 1 ≡ t → HostPowerUp font out (r .refusal) left
@@ -239,12 +246,14 @@ power-up-written font out g r left e good w = go (leb font 1) refl
 
 -- ---- any two allowed answers are equal
 
-pub one-host-run : (b t bs : List ℕ) (r s : ℕ) (x y u v : List ℕ) → HostRun b t bs r x u → HostRun b t bs s y v → (r ≡ s) × (x ≡ y) × (u ≡ v)
+pub one-host-run : (b t bs : List ℕ) (r s : ℕ) (x y u v : List ℕ) → HostRun b t bs r x u → HostRun b t bs s y v
+    → (r ≡ s) × (x ≡ y) × (u ≡ v)
 one-host-run b t bs r s x y u v p q = (p .answer ∙ sym (q .answer), p .block ∙ sym (q .block), p .tally ∙ sym (q .tally))
 
 pub one-host-plan : (number : ℕ) (bytes : List ℕ) (For : List ℕ → Type 0) (out : List ℕ) (r s : ℕ) (x y : List ℕ)
     → HostPromise number bytes For out r x → HostPromise number bytes For out s y → (r ≡ s) × (x ≡ y)
 one-host-plan number bytes For out r s x y p q = (p .answer ∙ sym (q .answer), p .buffer ∙ sym (q .buffer))
 
-pub one-host-power-up : (font : ℕ) (out : List ℕ) (r s : ℕ) (x y : List ℕ) → HostPowerUp font out r x → HostPowerUp font out s y → (r ≡ s) × (x ≡ y)
+pub one-host-power-up : (font : ℕ) (out : List ℕ) (r s : ℕ) (x y : List ℕ) → HostPowerUp font out r x → HostPowerUp font out s y
+    → (r ≡ s) × (x ≡ y)
 one-host-power-up font out r s x y p q = (p .answer ∙ sym (q .answer), p .buffer ∙ sym (q .buffer))

@@ -1,5 +1,5 @@
--- What the C host program's calls answer and leave (document 01, Refusal numbers and their order): the same as reading the block, running
--- or planning, and writing back.
+-- What the C host program's calls answer and leave (document 01, Refusal numbers and their order): the same as reading the
+-- block, running or planning, and writing back.
 use Prim.Native.Nat.{ℕ, _+_, _*_, _%_, _/_, _<_}
 use mathlib.Core.Path.{_≡_}
 use mathlib.Core.Bool.{Bool, cond, not, _&&_}
@@ -38,6 +38,15 @@ tallyBytes t = fourBytes (t .bytes) ++ (fourBytes (t .busy) ++ fourBytes (t .fli
 unfoldable pub openedOf : List ℕ → Outcome
 openedOf b = cond (eqb (damageOf b) 0) (record { refusal = 0; condition = conditionIn b }) (refusedOf (damageOf b))
 
+-- a call on a block. 1: a block not 512 bytes, or what else is lent not as long as it has to be; 2 and 3: as reading the block;
+-- then n, which is what the call itself refuses by
+unfoldable pub hostRefusalBy : Bool → List ℕ → ℕ → ℕ
+hostRefusalBy long b n = cond (not long) 1 (cond (not (eqb (readRefusal b) 0)) (readRefusal b) n)
+
+-- an answer as one number: the value, or a base plus the refusal
+unfoldable pub hostAnswer : ℕ → ℕ → ℕ → ℕ
+hostAnswer base refusal value = cond (eqb refusal 0) value (base + refusal)
+
 -- Run ---------------------------------------------------------------------------------------------------------------------
 
 -- the run on what stands in the block and in the tally
@@ -46,10 +55,7 @@ ranOf b t bs = runAnswer (conditionIn b) (tallyAt t) bs
 
 -- 1: a block not 512 bytes or a host tally not 12; 2 and 3: as reading the block; 3, 4, 5: as the run
 unfoldable pub hostRunRefusal : List ℕ → List ℕ → List ℕ → ℕ
-hostRunRefusal b t bs =
-    cond (not (eqb (length t) 12)) 1
-    (cond (not (eqb (readRefusal b) 0)) (readRefusal b)
-    (ranOf b t bs .refusal))
+hostRunRefusal b t bs = hostRefusalBy (eqb (length t) 12) b (ranOf b t bs .refusal)
 
 -- run changes the block and the tally together, or neither
 unfoldable pub blockAfter : List ℕ → List ℕ → List ℕ → List ℕ
@@ -67,37 +73,34 @@ pub record HostRun (b t bs : List ℕ) (r : ℕ) (b′ t′ : List ℕ) : Type 0
 
 -- Plan --------------------------------------------------------------------------------------------------------------------
 
--- 1: a block not 512 bytes or what is wanted not 40; 2 and 3: as reading the block; 3, 6 to 10: as the planner, which gives n
-unfoldable pub hostRefusalBy : Bool → List ℕ → ℕ → ℕ
-hostRefusalBy long b n = cond (not long) 1 (cond (not (eqb (readRefusal b) 0)) (readRefusal b) n)
-
+-- 1: a block not 512 bytes or what is wanted not 40; 2 and 3: as reading the block; 3, 6 to 10: as the planner
 unfoldable pub hostPlanRefusal : List ℕ → List ℕ → ℕ → List ℕ → ℕ
-hostPlanRefusal b codes cursor out = hostRefusalBy (eqb (length codes) 40) b (planRefusal (conditionIn b) codes cursor (length out))
+hostPlanRefusal b codes cursor out =
+    hostRefusalBy (eqb (length codes) 40) b (planRefusal (conditionIn b) codes cursor (length out))
 
 unfoldable pub hostFontsRefusal : List ℕ → List ℕ → List ℕ → ℕ → List ℕ → ℕ
 hostFontsRefusal b codes fonts cursor out =
     hostRefusalBy (eqb (length codes) 40 && eqb (length fonts) 40) b (fontsRefusal (conditionIn b) codes fonts cursor (length out))
 
--- a plan answers its length, or 256 plus the refusal
-unfoldable pub hostAnswer : ℕ → ℕ → ℕ
-hostAnswer refusal n = cond (eqb refusal 0) n (256 + refusal)
-
--- The answer r of a plan and what it leaves in the buffer, by its refusal number and its bytes: a refused one leaves it as it was, and an
--- answer below 256 says that so many bytes stand at its start, which are what the plan is for
+-- The answer r of a plan, which is its length or 256 plus the refusal, and what it leaves in the buffer, by its refusal number
+-- and its bytes: a refused one leaves it as it was, and an answer below 256 says that so many bytes stand at its start, which
+-- are what the plan is for
 pub record HostPromise (number : ℕ) (bytes : List ℕ) (For : List ℕ → Type 0) (out : List ℕ) (r : ℕ) (left : List ℕ) : Type 0 where
-  pub answer : r ≡ hostAnswer number (length bytes)
+  pub answer : r ≡ hostAnswer 256 number (length bytes)
   pub buffer : left ≡ outBy number bytes out
   pub delivers : r < 256 → For (take r left)
 
 -- what `sign_plan` promises
 abbrev pub HostPlan : List ℕ → List ℕ → ℕ → List ℕ → ℕ → List ℕ → Type 0
 HostPlan b codes cursor out r left =
-    HostPromise (hostPlanRefusal b codes cursor out) (plan (conditionIn b) codes cursor) (Delivers (conditionIn b) codes cursor) out r left
+    HostPromise (hostPlanRefusal b codes cursor out) (plan (conditionIn b) codes cursor) (Delivers (conditionIn b) codes cursor)
+    out r left
 
 -- what `sign_plan_fonts` promises
 abbrev pub HostFonts : List ℕ → List ℕ → List ℕ → ℕ → List ℕ → ℕ → List ℕ → Type 0
 HostFonts b codes fonts cursor out r left =
-    HostPromise (hostFontsRefusal b codes fonts cursor out) (fontsPlan (conditionIn b) codes fonts cursor) (FontsDelivers (conditionIn b) codes fonts cursor) out r left
+    HostPromise (hostFontsRefusal b codes fonts cursor out) (fontsPlan (conditionIn b) codes fonts cursor)
+    (FontsDelivers (conditionIn b) codes fonts cursor) out r left
 
 -- Power-up ----------------------------------------------------------------------------------------------------------------
 

@@ -8,7 +8,7 @@ use Rattle.glass.specs.declared.Shows.the-variants.{Blank, User, Euro, BuiltIn}
 use Rattle.glass.specs.declared.Answer.{Answer}
 use Rattle.glass.specs.Answers.{viewAnswer, dotAnswer, underlineAnswer, litAnswer}
 use Rattle.layout.specs.Layout.{conditionIn}
-use Rattle.sign.specs.Host.{hostRefusalBy}
+use Rattle.sign.specs.Host.{hostRefusalBy, hostAnswer}
 
 -- what a cell shows, as a number: 0 blank, 256 + code a user character, 512 Euro, 768 + code built-in in font 0, 1024 + code in
 -- font 1
@@ -21,13 +21,10 @@ showsNumber (User code) = 256 + code
 showsNumber Euro = 512
 showsNumber (BuiltIn code font) = builtInNumber code font
 
--- a question answers its value, or 65,536 plus the refusal
-unfoldable pub askedAs : ℕ → ℕ → ℕ
-askedAs refusal value = cond (eqb refusal 0) value (65536 + refusal)
-
--- 1, 2 and 3: as reading the block; 3: as the question about the condition that stands there
+-- a question answers its value, or 65,536 plus the refusal. 1, 2 and 3: as reading the block; 3: as the question about the
+-- condition that stands there
 unfoldable pub hostAsked : List ℕ → ℕ → ℕ → ℕ
-hostAsked b refusal value = askedAs (hostRefusalBy true b refusal) value
+hostAsked b refusal value = hostAnswer 65536 (hostRefusalBy true b refusal) value
 
 abbrev pub hostTold : List ℕ → Answer → ℕ
 hostTold b a = hostAsked b (a .refusal) (a .value)

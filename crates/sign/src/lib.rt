@@ -7,9 +7,14 @@ ghost use Rattle.sign.specs.Host.{HostRun, HostPlan, HostFonts, HostPowe
 use condition::Condition;
 use condition::Outcome;
 use interpreter::Tally;
-use planner::Planned;
 
 mod questions;
+
+// The host's tally: three four-byte numbers.
+const TALLY: usize = 12;
+
+// A plan's answer from here on is a refusal.
+const REFUSED: u32 = 256;
 
 fn wide(x: u8) -> u32
     ensures { λ r. ⌜ r ≡ x ⌝ }
@@ -61,7 +66,7 @@ fn four_bytes(n: u32) -> [u8; 4]
     ]
 }
 
-fn tally_bytes(t: Tally) -> [u8; 12]
+fn tally_bytes(t: Tally) -> [u8; TALLY]
     ensures { λ r. ⌜ r ≡ tallyBytes t ⌝ }
 {
     let a = four_bytes(t.bytes);
@@ -106,7 +111,7 @@ fn opened(block: &[u8]) -> Outcome
 pub extern "C" fn sign_run(block: &mut [u8], tally: &mut [u8], bytes: &[u8]) -> u32
     ensures { λ r. ⌜ HostRun (now (block .entry)) (now (tally .entry)) (now (bytes .entry)) r (now (block .exit)) (now (tally .exit)) ⌝ }
 {
-    if tally.len() != 12 {
+    if tally.len() != TALLY {
         return 1;
     }
     let got = opened(block);
@@ -127,20 +132,15 @@ pub extern "C" fn sign_run(block: &mut [u8], tally: &mut [u8], bytes: &[u8]) -> 
     0
 }
 
-fn refused(n: u8) -> u32
-    ensures { λ r. ⌜ r ≡ 256 + n ⌝ }
+// An answer as one number: the value, or a base plus the refusal.
+fn answer(base: u32, refusal: u8, value: u32) -> u32
+    requires { ⌜ base ≤ 65536 ⌝ }
+    ensures { λ r. ⌜ r ≡ hostAnswer base refusal value ⌝ }
 {
-    256 + (n as u32)
-}
-
-// A planner's answer as a number: the plan's length, or 256 plus the refusal.
-fn answer(p: Planned) -> u32
-    ensures { λ r. ⌜ r ≡ hostAnswer (p .refusal) (p .length) ⌝ }
-{
-    if p.refusal != 0 {
-        return refused(p.refusal);
+    if refusal != 0 {
+        return base + (refusal as u32);
     }
-    wide(p.length)
+    value
 }
 
 // Plans in the selected font on the block that is lent; answers the plan's length, or 256 plus the refusal.
@@ -148,16 +148,16 @@ fn answer(p: Planned) -> u32
 pub extern "C" fn sign_plan(block: &[u8], codes: &[u8], cursor: u32, out: &mut [u8]) -> u32
     ensures { λ r. ⌜ HostPlan (now (block .entry)) (now (codes .entry)) cursor (now (out .entry)) r (now (out .exit)) ⌝ }
 {
-    if codes.len() != 40 {
-        return refused(1);
+    if codes.len() != Condition::CELLS {
+        return answer(REFUSED, 1, 0);
     }
     let got = opened(block);
     if got.refusal != 0 {
-        return refused(got.refusal);
+        return answer(REFUSED, got.refusal, 0);
     }
     let c = got.condition;
     let p = planner::plan(c, codes, cursor, out);
-    answer(p)
+    answer(REFUSED, p.refusal, p.length as u32)
 }
 
 // Plans in two fonts on the block that is lent; answers the plan's length, or 256 plus the refusal.
@@ -171,17 +171,17 @@ pub extern "C" fn sign_plan_fonts(
 ) -> u32
     ensures { λ r. ⌜ HostFonts (now (block .entry)) (now (codes .entry)) (now (fonts .entry)) cursor (now (out .entry)) r (now (out .exit)) ⌝ }
 {
-    let long = (codes.len() == 40) & (fonts.len() == 40);
+    let long = (codes.len() == Condition::CELLS) & (fonts.len() == Condition::CELLS);
     if !long {
-        return refused(1);
+        return answer(REFUSED, 1, 0);
     }
     let got = opened(block);
     if got.refusal != 0 {
-        return refused(got.refusal);
+        return answer(REFUSED, got.refusal, 0);
     }
     let c = got.condition;
     let p = planner::plan_fonts(c, codes, fonts, cursor, out);
-    answer(p)
+    answer(REFUSED, p.refusal, p.length as u32)
 }
 
 // Writes the power-up block for a default font; answers 0 or the refusal.

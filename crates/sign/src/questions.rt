@@ -1,8 +1,12 @@
 // The C host program's questions about the glass, on a lent block.
 ghost use mathlib.Core.Path.{_≡_};
-ghost use Rattle.sign.specs.Questions.{builtInNumber, showsNumber, askedAs, hostView, hostDot, hostUnderline, hostLit};
+ghost use Rattle.sign.specs.Questions.{builtInNumber, showsNumber, hostView, hostDot, hostUnderline, hostLit};
+use crate::answer;
 use crate::opened;
 use glass::Shows;
+
+// A question's answer from here on is a refusal.
+const ASKED_REFUSED: u32 = 65536;
 
 // A built-in character in its font, as a number.
 fn built_in_number(code: u8, font: u8) -> u32
@@ -27,16 +31,6 @@ fn shows_number(s: Shows) -> u32
     }
 }
 
-// A question's answer as a number: the value, or 65,536 plus the refusal.
-fn asked(refusal: u8, value: u32) -> u32
-    ensures { λ r. ⌜ r ≡ askedAs refusal value ⌝ }
-{
-    if refusal != 0 {
-        return 65536 + (refusal as u32);
-    }
-    value
-}
-
 // What the cell at a position of the block that is lent shows.
 #[no_mangle]
 pub extern "C" fn sign_view(block: &[u8], position: u32) -> u32
@@ -44,12 +38,12 @@ pub extern "C" fn sign_view(block: &[u8], position: u32) -> u32
 {
     let got = opened(block);
     if got.refusal != 0 {
-        return asked(got.refusal, 0);
+        return answer(ASKED_REFUSED, got.refusal, 0);
     }
     let c = got.condition;
     let seen = glass::view(c, position);
     let s = seen.shows;
-    asked(seen.refusal, shows_number(s))
+    answer(ASKED_REFUSED, seen.refusal, shows_number(s))
 }
 
 // Dot k of a user character of the block that is lent, asked by its code.
@@ -59,11 +53,11 @@ pub extern "C" fn sign_dot(block: &[u8], code: u32, k: u32) -> u32
 {
     let got = opened(block);
     if got.refusal != 0 {
-        return asked(got.refusal, 0);
+        return answer(ASKED_REFUSED, got.refusal, 0);
     }
     let c = got.condition;
     let dot = glass::dot(c, code, k);
-    asked(dot.refusal, dot.value)
+    answer(ASKED_REFUSED, dot.refusal, dot.value)
 }
 
 // The underline of a user character of the block that is lent, asked by its code.
@@ -73,11 +67,11 @@ pub extern "C" fn sign_underline(block: &[u8], code: u32) -> u32
 {
     let got = opened(block);
     if got.refusal != 0 {
-        return asked(got.refusal, 0);
+        return answer(ASKED_REFUSED, got.refusal, 0);
     }
     let c = got.condition;
     let underline = glass::underline(c, code);
-    asked(underline.refusal, underline.value)
+    answer(ASKED_REFUSED, underline.refusal, underline.value)
 }
 
 // How many of its 35 dots a user character of the block that is lent lights, asked by its code.
@@ -87,9 +81,9 @@ pub extern "C" fn sign_lit(block: &[u8], code: u32) -> u32
 {
     let got = opened(block);
     if got.refusal != 0 {
-        return asked(got.refusal, 0);
+        return answer(ASKED_REFUSED, got.refusal, 0);
     }
     let c = got.condition;
     let lit = glass::lit(c, code);
-    asked(lit.refusal, lit.value)
+    answer(ASKED_REFUSED, lit.refusal, lit.value)
 }

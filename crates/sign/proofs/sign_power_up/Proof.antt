@@ -22,7 +22,11 @@ same-length : tie.Need-same-length
 same-length c = search needs
 
 returns-2 : tie.Need-returns-2
-returns-2 c = rw (c .wide2 .ensures) (power-up-written _ _ _ _ _ (c .before .before .before .before .before .before .before .before .power-up .ensures) (c .before .before .before .before .before .before .if1 .left) (c .before .before .before .write .ensures))
+returns-2 c =
+    let w = c .before .before .before in
+    let k = w .before .before .before in
+    rw (c .wide2 .ensures)
+    (power-up-written _ _ _ _ _ (k .before .before .power-up .ensures) (k .if1 .left) (w .write .ensures))
 
 pub sign-power-up-spec : {M : Type 1} → statement M
 sign-power-up-spec =

@@ -1,5 +1,5 @@
 use Rattle.sign.specs.Questions.{hostLit}
-use Rattle.sign.proofs.Asked.{asked-damaged, lit-read}
+use Rattle.sign.proofs.Asked.{asked-damaged, lit-in}
 use borrow.Author.Needs.{needs}
 use Rattle.sign.proofs.questions.sign_lit.Statement.{statement}
 use Rattle.sign.proofs.questions.sign_lit.Tie as tie
@@ -7,27 +7,27 @@ use Rattle.sign.proofs.questions.sign_lit.Tie as tie
 opened-requires : tie.Need-opened-requires
 opened-requires c κs = search needs
 
-asked-requires : tie.Need-asked-requires
-asked-requires c κs = search needs
+answer-requires : tie.Need-answer-requires
+answer-requires c κs = search needs
 
 returns : tie.Need-returns
 unfolding hostLit
-returns c = rw (c .asked .ensures) (asked-damaged _ _ (c .before .before .before .opened .ensures) _ _ _ (c .before .if1 .taken))
+returns c = rw (c .answer .ensures) (asked-damaged _ _ (c .before .before .before .opened .ensures) _ _ (c .before .if1 .taken))
 
 lit-requires : tie.Need-lit-requires
 lit-requires c κs = search needs
 
-asked-requires-2 : tie.Need-asked-requires-2
-asked-requires-2 c κs = search needs
+answer-requires-2 : tie.Need-answer-requires-2
+answer-requires-2 c κs = search needs
 
 returns-2 : tie.Need-returns-2
 returns-2 c =
     let k = c .before .before .before in
     let g = k .before .before in
-    rw (c .asked2 .ensures)
-    (lit-read _ _ (g .opened .ensures) (k .if1 .left) _ _ (c .before .lit .ensures))
+    rw (c .answer2 .ensures)
+    (lit-in _ _ (g .opened .ensures) (k .if1 .left) _ _ (c .before .lit .ensures))
 
 pub sign-lit-spec : {M : Type 1} → statement M
 sign-lit-spec =
     tie.close
-    (tie.spec opened-requires asked-requires returns lit-requires asked-requires-2 returns-2)
+    (tie.spec opened-requires answer-requires returns lit-requires answer-requires-2 returns-2)

@@ -1,5 +1,5 @@
 use Rattle.sign.specs.Questions.{hostUnderline}
-use Rattle.sign.proofs.Asked.{asked-damaged, underline-read}
+use Rattle.sign.proofs.Asked.{asked-damaged, underline-in}
 use borrow.Author.Needs.{needs}
 use Rattle.sign.proofs.questions.sign_underline.Statement.{statement}
 use Rattle.sign.proofs.questions.sign_underline.Tie as tie
@@ -7,27 +7,27 @@ use Rattle.sign.proofs.questions.sign_underline.Tie as tie
 opened-requires : tie.Need-opened-requires
 opened-requires c κs = search needs
 
-asked-requires : tie.Need-asked-requires
-asked-requires c κs = search needs
+answer-requires : tie.Need-answer-requires
+answer-requires c κs = search needs
 
 returns : tie.Need-returns
 unfolding hostUnderline
-returns c = rw (c .asked .ensures) (asked-damaged _ _ (c .before .before .before .opened .ensures) _ _ _ (c .before .if1 .taken))
+returns c = rw (c .answer .ensures) (asked-damaged _ _ (c .before .before .before .opened .ensures) _ _ (c .before .if1 .taken))
 
 underline-requires : tie.Need-underline-requires
 underline-requires c κs = search needs
 
-asked-requires-2 : tie.Need-asked-requires-2
-asked-requires-2 c κs = search needs
+answer-requires-2 : tie.Need-answer-requires-2
+answer-requires-2 c κs = search needs
 
 returns-2 : tie.Need-returns-2
 returns-2 c =
     let k = c .before .before .before in
     let g = k .before .before in
-    rw (c .asked2 .ensures)
-    (underline-read _ _ (g .opened .ensures) (k .if1 .left) _ _ (c .before .underline .ensures))
+    rw (c .answer2 .ensures)
+    (underline-in _ _ (g .opened .ensures) (k .if1 .left) _ _ (c .before .underline .ensures))
 
 pub sign-underline-spec : {M : Type 1} → statement M
 sign-underline-spec =
     tie.close
-    (tie.spec opened-requires asked-requires returns underline-requires asked-requires-2 returns-2)
+    (tie.spec opened-requires answer-requires returns underline-requires answer-requires-2 returns-2)
