@@ -5,8 +5,10 @@ use borrow.Author.Tests.{eq-eqb, le-leb}
 use Rattle.row.specs.Row.{lineStart, scrolled, shifted}
 use Rattle.users.specs.Users.{limitOf, foundIn, isUser, characterAt, putOf, definedAt, defineOf}
 use Rattle.dots.specs.Dots.{dotOf, litUpTo, litOf}
-use Rattle.condition.specs.Condition.{allUpTo, absent, usersGood, pendingGood, numbersGood, scrollGood, escapeGood, wellFormed, powerUp}
-use Rattle.condition.specs.Bytes.{scrollOf, leftOf, rightOf, downOf, returnOf, clearOf, pushOf, writeOf, isChar, controlOf, escapeOf, positionOf, dataOf, stepAt, runOf}
+use Rattle.condition.specs.Condition.{allUpTo, absent, usersGood, pendingGood, numbersGood, scrollGood, escapeGood, wellFormed}
+use Rattle.condition.specs.Condition.{powerUp}
+use Rattle.condition.specs.Bytes.{scrollOf, leftOf, rightOf, downOf, returnOf, clearOf, pushOf, writeOf, isChar, controlOf}
+use Rattle.condition.specs.Bytes.{escapeOf, positionOf, dataOf, stepAt, runOf}
 use Rattle.condition.specs.Busy.{rightScrolls, downScrolls, lineShifts, writeBusy, controlBusy, escapeBusy, figureAt, busyOf}
 use Rattle.glass.specs.Shows.{showsCode, showsOf}
 use Rattle.glass.specs.Answers.{lookupOf, dotAnswer, litAnswer}
@@ -20,7 +22,12 @@ use Rattle.bench_sheet.specs.Sheet.{AllHold, dotsUpTo, sheet}
 use Rattle.bench_sheet.specs.Fonts.{fontsSheet}
 
 pub bench : AllHold sheet
-unfolding powerUp runOf stepAt isChar isUser foundIn limitOf writeOf pushOf rightOf scrollOf scrolled shifted lineStart controlOf leftOf downOf returnOf clearOf escapeOf positionOf dataOf defineOf definedAt putOf busyOf figureAt writeBusy controlBusy escapeBusy rightScrolls downScrolls lineShifts showsOf showsCode dotsUpTo dotAnswer litAnswer lookupOf wellFormed numbersGood scrollGood allUpTo usersGood absent pendingGood escapeGood characterAt dotOf litOf litUpTo wrong left next down move near1 near2 dist leaves firstByte pathOf path flagged planOf plan onMove lacks someLacks refusalBy planRefusal
+unfolding powerUp runOf stepAt isChar isUser foundIn limitOf writeOf pushOf rightOf scrollOf scrolled shifted lineStart
+    controlOf leftOf downOf returnOf clearOf escapeOf positionOf dataOf defineOf definedAt putOf busyOf figureAt writeBusy
+    controlBusy escapeBusy rightScrolls downScrolls lineShifts showsOf showsCode dotsUpTo dotAnswer litAnswer lookupOf
+    wellFormed numbersGood scrollGood allUpTo usersGood absent pendingGood escapeGood characterAt dotOf litOf litUpTo wrong left
+    next down move near1 near2 dist leaves firstByte pathOf path flagged planOf plan onMove lacks someLacks refusalBy
+    planRefusal
 bench = (
   (refl, refl),
   (
@@ -55,5 +62,7 @@ bench = (
 
 -- and the cases for two fonts
 pub fonts-bench : AllHold fontsSheet
-unfolding powerUp runOf stepAt isChar isUser foundIn limitOf controlOf escapeOf positionOf wellFormed numbersGood scrollGood allUpTo usersGood absent pendingGood escapeGood left next down move near1 near2 dist lineStart leaves firstByte pathOf path flagged wrongFor switch fontsPlanOf fontsPlan onMove onSwitch lacks someLacks refusalBy fontsRefusal
-fonts-bench = ((refl, refl), ((refl, refl), (refl, tt)))
+unfolding powerUp runOf stepAt isChar isUser foundIn limitOf controlOf escapeOf positionOf wellFormed numbersGood scrollGood
+    allUpTo usersGood absent pendingGood escapeGood left next down move near1 near2 dist lineStart leaves firstByte pathOf path
+    flagged wrongFor switch fontsPlanOf fontsPlan onMove onSwitch lacks someLacks refusalBy fontsRefusal
+fonts-bench = ((refl, refl), ((refl, refl), ((refl, refl), tt)))

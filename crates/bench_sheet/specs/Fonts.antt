@@ -22,7 +22,12 @@ inTurn = pair ++ (pair ++ (pair ++ (pair ++ pair)))
 abbrev pub fontsSheet : List Case
 fontsSheet =
     -- Katakana below: 41h at 0, B1h in Katakana at 20, else 20h, cursor 0: 41 08 0A 19 B1 0C
-    record { bytes = []; holds = λ c busy. PlannedFonts c (set (set blank 0 0x41) 20 0xB1) (set (replicate 40 0) 20 1) 0 (0x41 ∷ 0x08 ∷ 0x0A ∷ 0x19 ∷ 0xB1 ∷ 0x0C ∷ []) }
+    record {
+      bytes = [];
+      holds = λ c busy.
+          PlannedFonts c (set (set blank 0 0x41) 20 0xB1) (set (replicate 40 0) 20 1) 0
+          (0x41 ∷ 0x08 ∷ 0x0A ∷ 0x19 ∷ 0xB1 ∷ 0x0C ∷ []);
+    }
     -- Euro on, fonts in turn: 19 41 18 1A 42 19 43 18 1A 44
     ∷ record {
       bytes = 0x1A ∷ [];
@@ -30,6 +35,10 @@ fontsSheet =
           PlannedFonts c (set (set (set (set blank 0 0x41) 1 0x42) 2 0x43) 3 0x44) (set (set (replicate 40 0) 0 1) 2 1) 4
           (0x19 ∷ 0x41 ∷ 0x18 ∷ 0x1A ∷ 0x42 ∷ 0x19 ∷ 0x43 ∷ 0x18 ∷ 0x1A ∷ 0x44 ∷ []);
     }
-    -- the longest: Katakana selected, Euro on, cursor 5; all cells 41h, fonts in turn, cursor 39: 104 bytes
-    ∷ record { bytes = 0x19 ∷ 0x1A ∷ 0x1B ∷ 0x48 ∷ 0x05 ∷ []; holds = λ c busy. length (fontsPlan c (replicate 40 0x41) inTurn 39) ≡ 104 }
+    -- the longest: Katakana selected, Euro on, cursor 5; all cells 41h, fonts in turn, cursor 39: accepted, 104 bytes
+    ∷ record {
+      bytes = 0x19 ∷ 0x1A ∷ 0x1B ∷ 0x48 ∷ 0x05 ∷ [];
+      holds = λ c busy.
+          (fontsRefusal c (replicate 40 0x41) inTurn 39 104 ≡ 0) × (length (fontsPlan c (replicate 40 0x41) inTurn 39) ≡ 104);
+    }
     ∷ []
