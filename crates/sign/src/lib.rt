@@ -109,7 +109,8 @@ fn opened(block: &[u8]) -> Outcome
 // Runs bytes on the block and the tally that are lent; answers 0 or the refusal.
 #[no_mangle]
 pub extern "C" fn sign_run(block: &mut [u8], tally: &mut [u8], bytes: &[u8]) -> u32
-    ensures { λ r. ⌜ HostRun (now (block .entry)) (now (tally .entry)) (now (bytes .entry)) r (now (block .exit)) (now (tally .exit)) ⌝ }
+    ensures { λ r. ⌜ HostRun (now (block .entry)) (now (tally .entry)) (now (bytes .entry)) r
+        (now (block .exit)) (now (tally .exit)) ⌝ }
 {
     if tally.len() != TALLY {
         return 1;
@@ -169,7 +170,8 @@ pub extern "C" fn sign_plan_fonts(
     cursor: u32,
     out: &mut [u8],
 ) -> u32
-    ensures { λ r. ⌜ HostFonts (now (block .entry)) (now (codes .entry)) (now (fonts .entry)) cursor (now (out .entry)) r (now (out .exit)) ⌝ }
+    ensures { λ r. ⌜ HostFonts (now (block .entry)) (now (codes .entry)) (now (fonts .entry)) cursor (now (out .entry)) r
+        (now (out .exit)) ⌝ }
 {
     let long = (codes.len() == Condition::CELLS) & (fonts.len() == Condition::CELLS);
     if !long {
