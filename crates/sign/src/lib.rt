@@ -16,12 +16,6 @@ const TALLY: usize = 12;
 // A plan's answer from here on is a refusal.
 const REFUSED: u32 = 256;
 
-fn wide(x: u8) -> u32
-    ensures { λ r. ⌜ r ≡ x ⌝ }
-{
-    x as u32
-}
-
 fn join(a: u8, b: u8, c: u8, d: u8) -> u32
     ensures { λ r. ⌜ r ≡ a + b * 256 + c * 65536 + d * 16777216 ⌝ }
 {
@@ -117,13 +111,13 @@ pub extern "C" fn sign_run(block: &mut [u8], tally: &mut [u8], bytes: &[u8]) -> 
     }
     let got = opened(block);
     if got.refusal != 0 {
-        return wide(got.refusal);
+        return got.refusal as u32;
     }
     let t = tally_at(tally);
     let c = got.condition;
     let ran = interpreter::run(c, t, bytes);
     if ran.refusal != 0 {
-        return wide(ran.refusal);
+        return ran.refusal as u32;
     }
     let next = ran.condition;
     block::put(next, block);
@@ -193,9 +187,9 @@ pub extern "C" fn sign_power_up(font: u32, block: &mut [u8]) -> u32
 {
     let start = Condition::power_up(font);
     if start.refusal != 0 {
-        return wide(start.refusal);
+        return start.refusal as u32;
     }
     let c = start.condition;
     let written = block::write(c, block);
-    wide(written.refusal)
+    written.refusal as u32
 }

@@ -6,17 +6,17 @@ use Rattle.sign.proofs.sign_power_up.Tie as tie
 power-up-requires : tie.Need-power-up-requires
 power-up-requires c κs = search needs
 
-wide-requires : tie.Need-wide-requires
-wide-requires c κs = search needs
+cast-result : tie.Need-cast-result
+cast-result c = search needs
 
 returns : tie.Need-returns
-returns c = rw (c .wide .ensures) (power-up-refused _ _ _ (c .before .before .before .power-up .ensures) (c .before .if1 .taken))
+returns c = power-up-refused _ _ _ (c .before .before .before .power-up .ensures) (c .before .if1 .taken)
 
 write-requires : tie.Need-write-requires
 write-requires c κs = search needs
 
-wide-requires-2 : tie.Need-wide-requires-2
-wide-requires-2 c κs = search needs
+cast-result-2 : tie.Need-cast-result-2
+cast-result-2 c = search needs
 
 same-length : tie.Need-same-length
 same-length c = search needs
@@ -25,17 +25,16 @@ returns-2 : tie.Need-returns-2
 returns-2 c =
     let w = c .before .before .before in
     let k = w .before .before .before in
-    rw (c .wide2 .ensures)
-    (power-up-written _ _ _ _ _ (k .before .before .power-up .ensures) (k .if1 .left) (w .write .ensures))
+    power-up-written _ _ _ _ _ (k .before .before .power-up .ensures) (k .if1 .left) (w .write .ensures)
 
 pub sign-power-up-spec : {M : Type 1} → statement M
 sign-power-up-spec =
     tie.close
     (tie.spec
     power-up-requires
-    wide-requires
+    cast-result
     returns
     write-requires
-    wide-requires-2
+    cast-result-2
     same-length
     returns-2)

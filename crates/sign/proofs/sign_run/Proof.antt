@@ -9,8 +9,8 @@ returns c = run-short _ _ _ (c .if1 .taken)
 opened-requires : tie.Need-opened-requires
 opened-requires c κs = search needs
 
-wide-requires : tie.Need-wide-requires
-wide-requires c κs = search needs
+cast-result : tie.Need-cast-result
+cast-result c = search needs
 
 same-length : tie.Need-same-length
 same-length c = search needs
@@ -18,7 +18,7 @@ same-length c = search needs
 returns-2 : tie.Need-returns-2
 returns-2 c =
     let g = c .before .before .before in
-    rw (c .wide .ensures) (run-damaged _ _ _ (g .before .before .if1 .left) _ (g .opened .ensures) (c .before .if2 .taken))
+    run-damaged _ _ _ (g .before .before .if1 .left) _ (g .opened .ensures) (c .before .if2 .taken)
 
 tally-at-requires : tie.Need-tally-at-requires
 tally-at-requires c κs = search needs
@@ -26,8 +26,8 @@ tally-at-requires c κs = search needs
 run-requires : tie.Need-run-requires
 run-requires c κs = search needs
 
-wide-requires-2 : tie.Need-wide-requires-2
-wide-requires-2 c κs = search needs
+cast-result-2 : tie.Need-cast-result-2
+cast-result-2 c = search needs
 
 same-length-2 : tie.Need-same-length-2
 same-length-2 c = search needs
@@ -40,9 +40,8 @@ returns-3 c =
     let r = c .before .before .before in
     let k = r .before .before .before .before in
     let g = k .before .before in
-    rw (c .wide2 .ensures)
-    (run-stopped _ _ _ (g .before .before .if1 .left) _ (g .opened .ensures) _ _ (k .if2 .left)
-    (r .before .before .tally-at .ensures) (r .run .ensures) (c .before .if3 .taken))
+    run-stopped _ _ _ (g .before .before .if1 .left) _ (g .opened .ensures) _ _ (k .if2 .left)
+    (r .before .before .tally-at .ensures) (r .run .ensures) (c .before .if3 .taken)
 
 put-requires : tie.Need-put-requires
 put-requires c κs = search needs
@@ -78,12 +77,12 @@ sign-run-spec =
     (tie.spec
     returns
     opened-requires
-    wide-requires
+    cast-result
     same-length
     returns-2
     tally-at-requires
     run-requires
-    wide-requires-2
+    cast-result-2
     same-length-2
     same-length-3
     returns-3
