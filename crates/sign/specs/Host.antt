@@ -38,8 +38,10 @@ tallyBytes t = fourBytes (t .bytes) ++ (fourBytes (t .busy) ++ fourBytes (t .fli
 unfoldable pub openedOf : List ℕ → Outcome
 openedOf b = cond (eqb (damageOf b) 0) (record { refusal = 0; condition = conditionIn b }) (refusedOf (damageOf b))
 
--- a call on a block. 1: a block not 512 bytes, or what else is lent not as long as it has to be; 2 and 3: as reading the block;
--- then n, which is what the call itself refuses by
+-- Every call on a block --------------------------------------------------------------------------------------------------
+
+-- 1: a block not 512 bytes, or what else is lent not as long as it has to be; 2 and 3: as reading the block; then
+-- n, which is what the call itself refuses by
 unfoldable pub hostRefusalBy : Bool → List ℕ → ℕ → ℕ
 hostRefusalBy long b n = cond (not long) 1 (cond (not (eqb (readRefusal b) 0)) (readRefusal b) n)
 

@@ -51,8 +51,8 @@ loop-again c =
     let h = g .before .before .before in
     let t = h .before .before .before .before in
     let l = t .before .loop in
-    let text = both-added (h .add-hex .ensures) (rw (g .separator .ensures) at (w .add-word .ensures)) in
-    (omega (arith, t .loop-test .taken), each-added _ (l .i) (l .inv .1) text)
+    let code = both-added (h .add-hex .ensures) (rw (g .separator .ensures) at (w .add-word .ensures)) in
+    (omega (arith, t .loop-test .taken), each-added _ (l .i) (l .inv .1) code)
 
 same-length : tie.Need-same-length Inv-loop μ-loop
 same-length c = same-added (c .before .loop .inv .1)

@@ -44,8 +44,8 @@ unfolding dotText
 loop-again c =
     let d = c .before .before .before .before .before .before in
     let l = d .before .before .loop in
-    let text = rw (d .dot .ensures) at (c .before .before .add-number .ensures) in
-    (omega (arith, d .before .loop-test .taken), each-added _ (l .i) (l .inv .1) text)
+    let dot = rw (d .dot .ensures) at (c .before .before .add-number .ensures) in
+    (omega (arith, d .before .loop-test .taken), each-added _ (l .i) (l .inv .1) dot)
 
 same-length : tie.Need-same-length Inv-loop μ-loop
 same-length c = same-added (c .before .loop .inv .1)
