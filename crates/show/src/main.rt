@@ -36,8 +36,9 @@ fn add_cells(out: &mut [u8], k: usize, codes: &[u8]) -> usize
     requires { ⌜ length (now codes) ≡ 40 ⌝ }
     ensures { λ r. ⌜ Added (now (out .entry)) k (cellLines (now (codes .entry))) (now (out .exit)) r ⌝ }
 {
-    let at = add_codes(out, k, &codes[..20]);
-    add_codes(out, at, &codes[20..])
+    let line = Condition::COLUMNS as usize;
+    let at = add_codes(out, k, &codes[..line]);
+    add_codes(out, at, &codes[line..])
 }
 
 fn add_place(out: &mut [u8], k: usize, c: Condition) -> usize

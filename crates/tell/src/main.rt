@@ -89,7 +89,11 @@ fn add_user(out: &mut [u8], k: usize, c: Condition, code: u8) -> usize
 fn held(count: u8) -> usize
     ensures { λ r. ⌜ (r ≡ min count 16) × (r ≤ 16) ⌝ }
 {
-    if count < 16 { count as usize } else { 16 }
+    if count < Condition::MOST_USERS {
+        count as usize
+    } else {
+        Condition::MOST_USERS as usize
+    }
 }
 
 fn add_users(out: &mut [u8], k: usize, c: Condition) -> usize

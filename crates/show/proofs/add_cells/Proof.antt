@@ -7,6 +7,9 @@ use borrow.Author.Needs.{needs}
 use Rattle.show.proofs.add_cells.Statement.{statement}
 use Rattle.show.proofs.add_cells.Tie as tie
 
+cast-line : tie.Need-cast-line
+cast-line c = search needs
+
 slice-aggregate-add-codes : tie.Need-slice-aggregate-add-codes
 slice-aggregate-add-codes c = sym (length-take-le 20 (c .before .before .before .before .args .codes .now) (search needs))
 
@@ -39,6 +42,7 @@ pub add-cells-spec : {M : Type 1} → statement M
 add-cells-spec =
     tie.close
     (tie.spec
+    cast-line
     slice-aggregate-add-codes
     add-codes-requires
     sub-add-codes
