@@ -1,2 +1,1 @@
 pub mod Hosted
-pub mod Asked

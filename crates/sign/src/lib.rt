@@ -2,19 +2,15 @@
 ghost use mathlib.Core.Path.{_≡_};
 ghost use Prim.Native.Nat.{_+_, _*_, _/_, _%_, _≤_, _<_};
 ghost use lib.ListN.{length};
-ghost use Rattle.sign.specs.Host.{openedOf, numberAt, fourBytes, tallyAt, tallyBytes, hostAnswer};
-ghost use Rattle.sign.specs.Host.{HostRun, HostPlan, HostFonts, HostPowerUp};
+ghost use Rattle.questions.specs.Questions.{hostView, hostDot, hostUnderline, hostLit};
+ghost use Rattle.sign.specs.Calls.{numberAt, fourBytes, tallyAt, tallyBytes};
+ghost use Rattle.sign.specs.Calls.{HostRun, HostPlan, HostFonts, HostPowerUp};
 use condition::Condition;
-use condition::Outcome;
+use host::Base;
 use interpreter::Tally;
-
-mod questions;
 
 // The host's tally: three four-byte numbers.
 const TALLY: usize = 12;
-
-// A plan's answer from here on is a refusal.
-const REFUSED: u32 = 256;
 
 fn join(a: u8, b: u8, c: u8, d: u8) -> u32
     ensures { λ r. ⌜ r ≡ a + b * 256 + c * 65536 + d * 16777216 ⌝ }
@@ -82,24 +78,6 @@ fn tally_bytes(t: Tally) -> [u8; TALLY]
     ]
 }
 
-// The condition that stands in a block, well formed or not, or what the block is refused for whatever stands in it. So a call
-// looks at a block once: what it then has the library do refuses by 3 where the condition is not well formed.
-fn opened(block: &[u8]) -> Outcome
-    ensures { λ r. ⌜ r ≡ openedOf (now (block .entry)) ⌝ }
-{
-    let damage = block::damage(block);
-    if damage != 0 {
-        let mut none = Condition::power_up(0);
-        none.refusal = damage;
-        return none;
-    }
-    let c = layout::unpacked(block);
-    Outcome {
-        refusal: 0,
-        condition: c,
-    }
-}
-
 // Runs bytes on the block and the tally that are lent; answers 0 or the refusal.
 #[no_mangle]
 pub extern "C" fn sign_run(block: &mut [u8], tally: &mut [u8], bytes: &[u8]) -> u32
@@ -109,7 +87,7 @@ pub extern "C" fn sign_run(block: &mut [u8], tally: &mut [u8], bytes: &[u8]) -> 
     if tally.len() != TALLY {
         return 1;
     }
-    let got = opened(block);
+    let got = host::opened(block);
     if got.refusal != 0 {
         return got.refusal as u32;
     }
@@ -127,32 +105,21 @@ pub extern "C" fn sign_run(block: &mut [u8], tally: &mut [u8], bytes: &[u8]) -> 
     0
 }
 
-// An answer as one number: the value, or a base plus the refusal.
-fn answer(base: u32, refusal: u8, value: u32) -> u32
-    requires { ⌜ base ≤ 65536 ⌝ }
-    ensures { λ r. ⌜ r ≡ hostAnswer base refusal value ⌝ }
-{
-    if refusal != 0 {
-        return base + (refusal as u32);
-    }
-    value
-}
-
 // Plans in the selected font on the block that is lent; answers the plan's length, or 256 plus the refusal.
 #[no_mangle]
 pub extern "C" fn sign_plan(block: &[u8], codes: &[u8], cursor: u32, out: &mut [u8]) -> u32
     ensures { λ r. ⌜ HostPlan (now (block .entry)) (now (codes .entry)) cursor (now (out .entry)) r (now (out .exit)) ⌝ }
 {
     if codes.len() != Condition::CELLS {
-        return answer(REFUSED, 1, 0);
+        return host::answer(Base::Plan, 1, 0);
     }
-    let got = opened(block);
+    let got = host::opened(block);
     if got.refusal != 0 {
-        return answer(REFUSED, got.refusal, 0);
+        return host::answer(Base::Plan, got.refusal, 0);
     }
     let c = got.condition;
     let p = planner::plan(c, codes, cursor, out);
-    answer(REFUSED, p.refusal, p.length as u32)
+    host::answer(Base::Plan, p.refusal, p.length as u32)
 }
 
 // Plans in two fonts on the block that is lent; answers the plan's length, or 256 plus the refusal.
@@ -169,15 +136,15 @@ pub extern "C" fn sign_plan_fonts(
 {
     let long = (codes.len() == Condition::CELLS) & (fonts.len() == Condition::CELLS);
     if !long {
-        return answer(REFUSED, 1, 0);
+        return host::answer(Base::Plan, 1, 0);
     }
-    let got = opened(block);
+    let got = host::opened(block);
     if got.refusal != 0 {
-        return answer(REFUSED, got.refusal, 0);
+        return host::answer(Base::Plan, got.refusal, 0);
     }
     let c = got.condition;
     let p = planner::plan_fonts(c, codes, fonts, cursor, out);
-    answer(REFUSED, p.refusal, p.length as u32)
+    host::answer(Base::Plan, p.refusal, p.length as u32)
 }
 
 // Writes the power-up block for a default font; answers 0 or the refusal.
@@ -192,4 +159,36 @@ pub extern "C" fn sign_power_up(font: u32, block: &mut [u8]) -> u32
     let c = start.condition;
     let written = block::write(c, block);
     written.refusal as u32
+}
+
+// What the cell at a position of the block that is lent shows.
+#[no_mangle]
+pub extern "C" fn sign_view(block: &[u8], position: u32) -> u32
+    ensures { λ r. ⌜ r ≡ hostView (now (block .entry)) position ⌝ }
+{
+    questions::view(block, position)
+}
+
+// Dot k of a user character of the block that is lent, asked by its code.
+#[no_mangle]
+pub extern "C" fn sign_dot(block: &[u8], code: u32, k: u32) -> u32
+    ensures { λ r. ⌜ r ≡ hostDot (now (block .entry)) code k ⌝ }
+{
+    questions::dot(block, code, k)
+}
+
+// The underline of a user character of the block that is lent, asked by its code.
+#[no_mangle]
+pub extern "C" fn sign_underline(block: &[u8], code: u32) -> u32
+    ensures { λ r. ⌜ r ≡ hostUnderline (now (block .entry)) code ⌝ }
+{
+    questions::underline(block, code)
+}
+
+// How many of its 35 dots a user character of the block that is lent lights, asked by its code.
+#[no_mangle]
+pub extern "C" fn sign_lit(block: &[u8], code: u32) -> u32
+    ensures { λ r. ⌜ r ≡ hostLit (now (block .entry)) code ⌝ }
+{
+    questions::lit(block, code)
 }

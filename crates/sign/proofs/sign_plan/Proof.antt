@@ -1,8 +1,9 @@
 use borrow.Author.Tests.{eq-eqb, ne-eqb}
 use Rattle.planner.specs.Answer.{planRefusal}
 use Rattle.planner.proofs.Refusals.{unformed}
-use Rattle.sign.specs.Host.{hostPlanRefusal}
-use Rattle.sign.proofs.Hosted.{in-block, plan-short, plan-damaged, plan-done, plan-in}
+use Rattle.sign.specs.Calls.{hostPlanRefusal}
+use Rattle.host.proofs.Once.{in-block}
+use Rattle.sign.proofs.Hosted.{plan-short, plan-damaged, plan-done, plan-in}
 use borrow.Author.Needs.{needs}
 use Rattle.sign.proofs.sign_plan.Statement.{statement}
 use Rattle.sign.proofs.sign_plan.Tie as tie

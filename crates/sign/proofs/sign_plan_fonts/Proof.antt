@@ -1,8 +1,9 @@
 use borrow.Author.Tests.{not-true, not-false}
 use Rattle.planner.specs.Answer.{fontsRefusal}
 use Rattle.planner.proofs.Refusals.{unformed}
-use Rattle.sign.specs.Host.{hostFontsRefusal}
-use Rattle.sign.proofs.Hosted.{in-block, plan-short, plan-damaged, plan-done, fonts-in}
+use Rattle.sign.specs.Calls.{hostFontsRefusal}
+use Rattle.host.proofs.Once.{in-block}
+use Rattle.sign.proofs.Hosted.{plan-short, plan-damaged, plan-done, fonts-in}
 use borrow.Author.Needs.{needs}
 use Rattle.sign.proofs.sign_plan_fonts.Statement.{statement}
 use Rattle.sign.proofs.sign_plan_fonts.Tie as tie

@@ -1,4 +1,4 @@
-use Rattle.sign.specs.Host.{tallyAt}
+use Rattle.sign.specs.Calls.{tallyAt}
 use borrow.Author.Needs.{needs}
 use Rattle.sign.proofs.tally_at.Statement.{statement}
 use Rattle.sign.proofs.tally_at.Tie as tie

@@ -1,4 +1,4 @@
-use Rattle.sign.specs.Host.{tallyBytes}
+use Rattle.sign.specs.Calls.{tallyBytes}
 use borrow.Author.Needs.{needs}
 use Rattle.sign.proofs.tally_bytes.Statement.{statement}
 use Rattle.sign.proofs.tally_bytes.Tie as tie
