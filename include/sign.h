@@ -44,7 +44,7 @@ extern "C" {
    (the C library's memcpy and memset by their return address alone). The test `stack` compares
    these lines with the compiled code.
      sign_power_up   664
-     sign_run        1,304
+     sign_run        1,272
      sign_plan       2,248
      sign_plan_fonts 2,280
      sign_view       656

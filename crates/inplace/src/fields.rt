@@ -36,7 +36,7 @@ pub(crate) fn go_to(s: &mut [u8], x: u8)
     ensures { λ _. ⌜ conditionIn (now (s .exit)) ≡ goTo (conditionIn (now (s .entry))) x ⌝ }
 {
     s[CURSOR] = x;
-    s[SCROLLING] = 0;
+    s[SCROLLING] = 0; // 08h, 0Ah, 0Ch, 0Dh and a position that is taken
 }
 
 pub(crate) fn set_mode(s: &mut [u8], m: u8)
