@@ -116,8 +116,9 @@ returns c =
     let c₂ = c₃ .before .before .before .before in
     let c₁ = c₂ .before .before .before .before in
     let o = c₁ .before .before .before .before in
-    unpacking (o .args .s .now) (c₁ .copy .last .0) (c₂ .copy2 .last .0) (c₃ .copy3 .last .0) (c₄ .copy4 .last .0) (p .pending-in .result)
-    (o .pre) (c₁ .copy .ensures) (c₂ .copy2 .ensures) (c₃ .copy3 .ensures) (c₄ .copy4 .ensures) (p .pending-in .ensures)
+    unpacking (o .args .s .now) (c₁ .copy .last .0) (c₂ .copy2 .last .0) (c₃ .copy3 .last .0) (c₄ .copy4 .last .0)
+    (p .pending-in .result) (o .pre)
+    (c₁ .copy .ensures) (c₂ .copy2 .ensures) (c₃ .copy3 .ensures) (c₄ .copy4 .ensures) (p .pending-in .ensures)
 
 pub unpack-spec : {M : Type 1} → statement M
 unpack-spec =
