@@ -120,7 +120,7 @@ missing_places() {
 # An edit of a contract in src/ is one of a definition: it names the logic's own signs.
 miscounted() {
     code=0 definition=0 both=0
-    for edit in crates/*/must-fail/*.edit; do
+    for edit in crates/*/must-fail/*.edit crates/*/must-fail/*.slip; do
         defined=$(grep -cE '^file: specs/|^old: .*(⌜|⌝|≡|now \()' "$edit" || true)
         coded=$(awk '/^file: /{ f = $2 } /^old: / && f ~ /^src\// && !/⌜|⌝|≡|now \(/ { n++ } END { print n + 0 }' "$edit")
         if [ "$defined" -eq 0 ]; then

@@ -1,11 +1,11 @@
 #!/bin/sh
 # Builds and runs one test, or a measure: tests/run.sh NAME. See tests/README.md. The gate runs these:
-tests='docs self show tell host questions plans fonts alike c-host example dump station install stack'
+tests='docs wrong self show tell host questions plans fonts alike c-host example dump station install stack'
 set -eu
 cd "$(dirname "$0")/.."
 case ${1:-} in
 names) echo "$tests" && exit ;;
-docs) exec tests/docs.sh ;; # it wants no compiler
+docs | wrong) exec "tests/$1.sh" ;; # they want no compiler
 esac
 . tests/tools.sh
 out=target/tests

@@ -1,0 +1,77 @@
+#!/bin/sh
+# Tries the wrong programs crates/*/must-fail/*.slip, each over what was proved of its crate: tests/wrong.sh [CRATE..]
+# `rt ci` tries those that end in .edit by a check of their whole crate. Here a crate is checked once, and then only what
+# an edit changes is checked anew (`rt dev`), which takes a tenth of the time. What is not checked anew was proved, so a
+# refusal is a refusal. A slip that is not refused, or does not fit the code, is wrong. Two crates are tried at a time.
+set -eu
+cd "$(dirname "$0")/.."
+root=$PWD
+work=$root/target/tests/wrong
+
+# apply EDIT FOLDER: the edit's pairs of `old:` and `new:` in the files of the folder; each old text stands there once
+apply() {
+    awk -v folder="$2" '
+        function fail(why) { print why; failed = 1; exit 1 }
+        function text(file,    all, line) {
+            all = ""
+            while ((getline line <file) > 0) all = all line "\n"
+            close(file)
+            return all
+        }
+        /^file: / { file = folder "/" substr($0, 7) }
+        /^old: / { old = substr($0, 6) }
+        /^new:/ {
+            new = substr($0, 5)
+            sub(/^ /, "", new)
+            all = text(file)
+            at = index(all, old)
+            rest = substr(all, at + length(old))
+            if (old == "" || !at || index(rest, old)) fail("its old text does not stand once in " file)
+            printf "%s%s%s", substr(all, 1, at - 1), new, rest >file
+            close(file)
+            pairs++
+        }
+        END { if (!failed && !pairs) fail("it changes nothing"); exit failed }' "$1"
+}
+
+# One crate: a small repository that has the proved libraries of this one, in which its code may be changed.
+try_crate() {
+    name=$1 here=$work/$1
+    rm -rf "$here"
+    mkdir -p "$here/target"
+    cp -R "$root/crates.txt" "$root/crates" "$here"
+    ln -s "$root/target/rlib" "$root/target/stamp" "$here/target"
+    cd "$here"
+    if ! rt dev "$name" >proved.log 2>&1; then
+        echo "wrong: FAILED: $name is not proved"
+        return 1
+    fi
+    status=0
+    for slip in "$root/crates/$name/must-fail"/*.slip; do
+        label=$name/$(basename "$slip" .slip)
+        rm -rf "crates/$name"
+        cp -R "$root/crates/$name" crates
+        if ! why=$(apply "$slip" "crates/$name"); then
+            echo "wrong: FAILED: $label: $why"
+            status=1
+            continue
+        fi
+        if rt dev "$name" >tried.log 2>&1 || ! grep -q '^logic=not-proved' tried.log; then
+            echo "wrong: FAILED: $label is not refused"
+            status=1
+        else
+            first=$(sed -n "s|^$here/crates/$name/\([^ ]*\): error: .*|\1|p" tried.log | head -n 1)
+            echo "wrong: $label is refused${first:+, first at $first}"
+        fi
+    done
+    return "$status"
+}
+
+case ${1:-} in
+--one) try_crate "$2" && exit || exit 1 ;;
+esac
+[ $# -gt 0 ] || set -- $(ls crates/*/must-fail/*.slip | cut -d / -f 2 | uniq)
+# Those that are checked longest first.
+printf '%s\n' "$@" | while read -r name; do echo "$(find "crates/$name/proofs" -name Proof.antt | wc -l) $name"; done |
+    sort -rn | cut -d ' ' -f 2 | xargs -n 1 -P 2 "$0" --one
+echo "wrong: $(for name; do ls "crates/$name/must-fail"/*.slip; done | wc -l) slips are refused"
