@@ -100,7 +100,7 @@ dead_references() {
     done
     while read -r place path name; do
         [ "$path" != OPEN ] || { echo "$place: a backtick is not closed on its line"; continue; }
-        for file in "crates/$path.antt" "crates/$path.edit" "crates/$path" "$path"; do
+        for file in "crates/$path.antt" "crates/$path.edit" "crates/$path.slip" "crates/$path" "$path"; do
             [ ! -e "$file" ] || break
         done
         if [ ! -e "$file" ]; then

@@ -64,6 +64,13 @@ try_crate() {
             echo "wrong: $label is refused${first:+, first at $first}"
         fi
     done
+    # what was saved on the way still proves the crate as it is
+    rm -rf "crates/$name"
+    cp -R "$root/crates/$name" crates
+    if ! rt dev "$name" >proved.log 2>&1; then
+        echo "wrong: FAILED: $name is no longer proved"
+        status=1
+    fi
     return "$status"
 }
 
@@ -71,6 +78,7 @@ case ${1:-} in
 --one) try_crate "$2" && exit || exit 1 ;;
 esac
 [ $# -gt 0 ] || set -- $(ls crates/*/must-fail/*.slip | cut -d / -f 2 | uniq)
+rt check "$@" >/dev/null
 # Those that are checked longest first.
 printf '%s\n' "$@" | while read -r name; do echo "$(find "crates/$name/proofs" -name Proof.antt | wc -l) $name"; done |
     sort -rn | cut -d ' ' -f 2 | xargs -n 1 -P 2 "$0" --one

@@ -1,5 +1,5 @@
--- What every call of the C host program on a block does first and last: it opens the block, and tells its answer as one number
--- (document 01, Refusal numbers and their order).
+-- What the calls of the C host program on a block share: opening it, and an answer with its refusal as one number (document 01,
+-- Refusal numbers and their order).
 use Prim.Native.Nat.{ℕ, _+_}
 use mathlib.Core.Bool.{Bool, cond, not}
 use mathlib.Core.List.{List}

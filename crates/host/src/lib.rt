@@ -1,4 +1,4 @@
-// What every call of the C host program on a block does first and last: it opens the block, and tells its answer as one number.
+// What the calls of the C host program on a block share: opening it, and an answer with its refusal as one number.
 ghost use mathlib.Core.Path.{_≡_};
 ghost use Prim.Native.Nat.{_≤_};
 ghost use Rattle.host.specs.Host.{openedOf, baseOf, hostAnswer};
