@@ -121,6 +121,7 @@ missing_places() {
 miscounted() {
     code=0 definition=0 both=0
     for edit in crates/*/must-fail/*.edit crates/*/must-fail/*.slip; do
+        ! grep '^file: ' "$edit" | grep -Eqv '^file: (src|specs)/' || echo "$edit: what it changes is neither code nor a definition"
         defined=$(grep -cE '^file: specs/|^old: .*(⌜|⌝|≡|now \()' "$edit" || true)
         coded=$(awk '/^file: /{ f = $2 } /^old: / && f ~ /^src\// && !/⌜|⌝|≡|now \(/ { n++ } END { print n + 0 }' "$edit")
         if [ "$defined" -eq 0 ]; then
@@ -137,8 +138,10 @@ miscounted() {
 
 misrun() {
     awk -f tests/unrun.awk crates/*/src/*.rt | sort >"$work/unrun"
-    sed -n '/^Never run as compiled:/,/^$/p' docs/PROMISES.md | grep -o '`[a-z_]*::[a-z_]*`' | tr -d '`' | sort >"$work/listed"
-    comm -3 "$work/unrun" "$work/listed" | sed 's/^\t\(.*\)/docs\/PROMISES.md: \1 is run/; t; s/\(.*\)/docs\/PROMISES.md: no program runs \1, and it is not listed/'
+    sed -n '/^Never run as compiled:/,/^$/p' docs/PROMISES.md | grep -o '`[a-z_0-9]*::[a-z_0-9]*`' |
+        tr -d '`' | sort >"$work/listed"
+    comm -23 "$work/unrun" "$work/listed" | sed 's/.*/docs\/PROMISES.md: no program runs &, and it is not listed/'
+    comm -13 "$work/unrun" "$work/listed" | sed 's/.*/docs\/PROMISES.md: & is listed, and it is run/'
     [ -s "$work/listed" ] || echo "docs/PROMISES.md: no function is listed that is never run"
 }
 

@@ -1,7 +1,8 @@
 # Prints the functions that no compiled program runs: those that neither a `main` nor an exported function reaches by
 # calls, as crate::function. Over crates/*/src/*.rt: awk -f tests/unrun.awk FILES
 # A name is followed to every function that it may mean: `f(` one of the own crate, `crate::f(` one of that crate,
-# `T::f(` and `.f(` one of any crate.
+# `T::f(` and `.f(` one of any crate. So functions of other crates are to be called by `crate::f`, as they are; and what is
+# printed is not run, but a function that shares its name with one that is run may be missed.
 FNR == 1 { split(FILENAME, part, "/"); crate = part[2]; known[crate] }
 { sub(/\/\/.*/, "") }
 match($0, /^ *(pub(\([a-z]+\))? )?(extern "C" )?fn [a-z_0-9]+/) {

@@ -186,9 +186,9 @@ fn worked_examples(r: &mut Report) {
             format!("example {}", hex(bytes))
         });
     }
-    r.cases += 6; // those that follow
     // user characters: the fifth byte is cut; the seventeenth ends the oldest, and a redefinition none
     let (c, _) = after(examples[3].0);
+    r.cases += 1;
     r.expect(
         c.users[0]
             == User {
@@ -204,21 +204,26 @@ fn worked_examples(r: &mut Report) {
         bytes.extend_from_slice(&[0x1B, 0x43, code, 0, 0, 0, 0, 0]);
     }
     let (c, _) = after(&[&bytes[..], &[0x41, 0x0C]].concat());
+    r.cases += 1;
     r.expect(c.count == 16 && c.codes == picture(&[(0, 0x41), (1, 0x0C)]), || {
         "sixteen user characters".to_string()
     });
     bytes.extend_from_slice(&[0x1B, 0x43, 0x0E, 0, 0, 0, 0, 0, 0x41, 0x0E, 0x0C]);
     let (c, _) = after(&bytes);
     let right = c.codes == picture(&[(0, 0x41), (1, 0x0E)]) && c.cursor == 0 && c.users[0].code == 0x80;
+    r.cases += 1;
     r.expect(right, || "the seventeenth user character".to_string());
     // fonts and the Euro mark
     let (c, _) = after(&[0x1A, 0x19, 0x0E]);
+    r.cases += 1;
     r.expect(c.euro && c.font == 1 && c.fonts == [1; CELLS], || {
         "19h, and a clear".to_string()
     });
     let (c, _) = after(&[0x1A, 0x19, 0x0E, 0x1B, 0x49]);
+    r.cases += 1;
     r.expect(c == Condition::power_up(0), || "Initialise".to_string());
     let (c, _) = after(&[0x1B, 0x4C, 0x40, 0x1B, 0x54, 0x00, 0x15]);
+    r.cases += 1;
     r.expect(c.luminance == 1 && c.speed == 0 && c.shown, || {
         "luminance, speed, cursor".to_string()
     });
@@ -338,11 +343,12 @@ fn two_fonts(r: &mut Report, moves: &Moves) {
             || format!("the longest plan, from font {}", c.font),
         );
     }
-    r.cases += 2;
-    r.expect(
-        longest_plan(moves, false) == 44 && longest_plan(moves, true) == 104,
-        || "no plan is longer than 44 bytes, and than 104".to_string(),
-    );
+    for (switches, most) in [(false, 44), (true, 104)] {
+        r.cases += 1;
+        r.expect(longest_plan(moves, switches) == most, || {
+            format!("no plan is longer than {} bytes", most)
+        });
+    }
     // the selected font wanted everywhere: the plan of one font
     let mut rng = Rng::new(2);
     for _ in 0..2_000 {

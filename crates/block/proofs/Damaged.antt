@@ -6,7 +6,8 @@ use mathlib.Core.List.{List}
 use native.Mathlib.Omega.{arith}
 use lib.Dec.{eqb}
 use lib.ListN.{length}
-use borrow.Author.Tests.{eqb-true}
+use borrow.Author.Tests.{eqb-true, not-false}
+use Rattle.laws.proofs.Tests.{passed}
 use Rattle.condition.specs.Condition.{wellFormed}
 use Rattle.layout.specs.Layout.{conditionIn, unpackedOf}
 use Rattle.layout.proofs.PackedBack.{enough}
@@ -32,13 +33,7 @@ read-by b = go (eqb (length b) 512) (intact b) (wellFormed (conditionIn b)) (sam
 -- one that is not damaged has its length, so a condition stands in it
 pub whole-length : (b : List ℕ) → damageOf b ≡ 0 → length b ≡ 512
 unfolding damageOf
-whole-length b e = go (eqb (length b) 512) refl e
-  where
-    go : (l : Bool) → eqb (length b) 512 ≡ l
-        → _≡_ {A = ℕ} (cond (not l) 1 (cond (not (intact b)) 2 (cond (not (sameBytes (blockOf (conditionIn b)) b)) 3 0))) 0
-        → length b ≡ 512
-    go true el f = eqb-true (length b) 512 el
-    go false el f = absurd (let z : _≡_ {A = ℕ} 1 0 = f in omega arith)
+whole-length b e = eqb-true (length b) 512 (not-false _ (passed (not (eqb (length b) 512)) 0 _ e .0))
 
 pub whole-unpacked : (b : List ℕ) → damageOf b ≡ 0 → unpackedOf b ≡ conditionIn b
 whole-unpacked b e = enough b (omega (arith, whole-length b e))

@@ -7,7 +7,8 @@ use native.Mathlib.Omega.{arith}
 use lib.Dec.{eqb}
 use lib.ListN.{length, getD, length-append}
 use lib.Seq.{getD-at, append-snoc}
-use borrow.Author.Tests.{eqb-true, eq-eqb}
+use borrow.Author.Tests.{eqb-true, eq-eqb, not-false}
+use Rattle.laws.proofs.Tests.{both, passed, number-by}
 use Rattle.condition.specs.declared.Condition.{Condition}
 use Rattle.condition.specs.declared.Outcome.{Outcome}
 use Rattle.condition.specs.Condition.{wellFormed}
@@ -64,33 +65,23 @@ answered b e = rw (eq-eqb _ _ e)
 accepted : (b : List ℕ) → readRefusal b ≡ 0 → Accepted b
 unfolding readRefusal sound
 accepted b e =
-    go (eqb (length b) 512) refl (intact b) refl (wellFormed (conditionIn b)) refl (sameBytes (blockOf (conditionIn b)) b) refl e
-  where
-    go : (p : Bool) → eqb (length b) 512 ≡ p → (q : Bool) → intact b ≡ q → (r : Bool) → wellFormed (conditionIn b) ≡ r
-        → (s : Bool) → sameBytes (blockOf (conditionIn b)) b ≡ s
-        → _≡_ {A = ℕ} (cond (not p) 1 (cond (not q) 2 (cond (not (r && s)) 3 0))) 0 → Accepted b
-    go true ep true eq true er true es f =
-        record {
-          long = eqb-true (length b) 512 ep;
-          whole = eq;
-          formed = er;
-          same = same-eq (blockOf (conditionIn b)) b es;
-          answer = answered b e;
-        }
-    go true ep true eq true er false es f = absurd (let z : _≡_ {A = ℕ} 3 0 = f in omega arith)
-    go true ep true eq false er s es f = absurd (let z : _≡_ {A = ℕ} 3 0 = f in omega arith)
-    go true ep false eq r er s es f = absurd (let z : _≡_ {A = ℕ} 2 0 = f in omega arith)
-    go false ep q eq r er s es f = absurd (let z : _≡_ {A = ℕ} 1 0 = f in omega arith)
+    let fits = wellFormed (conditionIn b) && sameBytes (blockOf (conditionIn b)) b in
+    let p1 = passed (not (eqb (length b) 512)) 0 _ e in
+    let p2 = passed (not (intact b)) 1 _ (p1 .1) in
+    let p3 = passed (not fits) 2 0 (p2 .1) in
+    let f = both (wellFormed (conditionIn b)) _ (not-false fits (p3 .0)) in
+    record {
+      long = eqb-true (length b) 512 (not-false _ (p1 .0));
+      whole = not-false _ (p2 .0);
+      formed = f .0;
+      same = same-eq (blockOf (conditionIn b)) b (f .1);
+      answer = answered b e;
+    }
 
 -- the refusal of the answer
 pub refusal-of : (b : List ℕ) → readAnswer b .refusal ≡ readRefusal b
 unfolding readAnswer
-refusal-of b = go (eqb (readRefusal b) 0) refl
-  where
-    go : (t : Bool) → eqb (readRefusal b) 0 ≡ t
-        → cond t (record { refusal = 0; condition = conditionIn b }) (refusedOf (readRefusal b)) .refusal ≡ readRefusal b
-    go true h = sym (eqb-true _ _ h)
-    go false h = refl
+refusal-of b = number-by (λ (r : Outcome). r .refusal) (readRefusal b) refl refl
 
 pub rewritten : (b : List ℕ) → readAnswer b .refusal ≡ 0 → blockOf (readAnswer b .condition) ≡ b
 rewritten b e =

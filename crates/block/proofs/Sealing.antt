@@ -4,8 +4,8 @@ use mathlib.Core.Path.{_≡_, refl, ap, sym, _∙_}
 use mathlib.Core.Bool.{Bool, true, false, cond}
 use mathlib.Core.List.{List, [], _∷_, _++_, append-assoc, append-nil}
 use native.Mathlib.Omega.{arith}
-use lib.ListN.{length, getD, take, drop, set, replicate, length-append, length-drop, drop-of-length-le}
-use lib.Seq.{drop-drop, drop-cons, drop-at, take-at, take-all, take-add, length-take-le, set-at, append-snoc}
+use lib.ListN.{length, getD, take, drop, set, replicate, length-append, drop-of-length-le}
+use lib.Seq.{drop-drop, drop-cons, drop-at, take-at, take-all, take-add, set-at, append-snoc}
 use borrow.Author.Tests.{lt-ltb, le-ltb}
 use Rattle.row.specs.Row.{laid}
 use Rattle.condition.specs.declared.Condition.{Condition}
@@ -15,7 +15,7 @@ use Rattle.layout.specs.Layout.{packedOf}
 use Rattle.block.specs.Block.{weigh, checkOf, bodyOf, sealOf, blockOf, putOver}
 use Rattle.block.specs.Tidy.{restZero}
 use Rattle.condition.proofs.Good.{Sized}
-use Rattle.layout.proofs.Parts.{part-length}
+use Rattle.laws.proofs.Lists.{part-length}
 use Rattle.layout.proofs.PackedBack.{length-packed}
 
 pub length-body : (c : Condition) → Sized c → length (bodyOf c) ≡ 510

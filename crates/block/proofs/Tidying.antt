@@ -19,7 +19,7 @@ use Rattle.block.specs.Block.{checkOf, bodyOf, sealOf, blockOf}
 use Rattle.block.specs.Reading.{sameBytes, intact}
 use Rattle.block.specs.Tidy.{kindGood, restZero, tidy}
 use Rattle.condition.proofs.Good.{Sized}
-use Rattle.layout.proofs.Parts.{cut}
+use Rattle.laws.proofs.Lists.{cut}
 use Rattle.layout.proofs.PackedBack.{length-packed, sized-in, repacked}
 use Rattle.block.proofs.Sealing.{unused, two-bytes, length-body, check-body}
 

@@ -75,7 +75,28 @@ writeOf c b = cond (eqb (c .mode) 3 && eqb (column c) 19) (pushOf c b) (rightOf 
 unfoldable pub isChar : Condition → ℕ → Bool
 isChar c b = isUser (c .users) b || leb 0x20 b
 
--- any other byte; those that are not named are ignored: 00h-07h, 0Bh, 10h, 1Ch-1Fh
+-- any other byte. 18h to 1Bh: the font, Euro, and ESC; those that are not named are ignored: 00h-07h, 0Bh, 10h, 1Ch-1Fh
+abbrev pub selectOf : Condition → ℕ → Condition
+selectOf c b =
+    cond (eqb b 0x18) (internationalOf c)
+    (cond (eqb b 0x19) (withFont c 1)
+    (cond (eqb b 0x1A) (withEuro c true)
+    (cond (eqb b 0x1B) (withPending c Escape)
+    c)))
+
+-- 11h to 17h: the mode, and the cursor shown or not
+abbrev pub settingOf : Condition → ℕ → Condition
+settingOf c b =
+    cond (eqb b 0x11) (modeOf c 1)
+    (cond (eqb b 0x12) (modeOf c 2)
+    (cond (eqb b 0x13) (modeOf c 3)
+    (cond (eqb b 0x14) (withShown c false)
+    (cond (eqb b 0x15) (withShown c true)
+    (cond (eqb b 0x16) (withShown c false)
+    (cond (eqb b 0x17) (withShown c false)
+    (selectOf c b)))))))
+
+-- 08h to 0Fh: the cursor's moves, and clearing
 unfoldable pub controlOf : Condition → ℕ → Condition
 controlOf c b =
     cond (eqb b 0x08) (leftOf c)
@@ -85,18 +106,7 @@ controlOf c b =
     (cond (eqb b 0x0D) (returnOf c)
     (cond (eqb b 0x0E) (clearOf c)
     (cond (eqb b 0x0F) (clearOf c)
-    (cond (eqb b 0x11) (modeOf c 1)
-    (cond (eqb b 0x12) (modeOf c 2)
-    (cond (eqb b 0x13) (modeOf c 3)
-    (cond (eqb b 0x14) (withShown c false)
-    (cond (eqb b 0x15) (withShown c true)
-    (cond (eqb b 0x16) (withShown c false)
-    (cond (eqb b 0x17) (withShown c false)
-    (cond (eqb b 0x18) (internationalOf c)
-    (cond (eqb b 0x19) (withFont c 1)
-    (cond (eqb b 0x1A) (withEuro c true)
-    (cond (eqb b 0x1B) (withPending c Escape)
-    c)))))))))))))))))
+    (settingOf c b)))))))
 
 -- the byte after 1Bh: 43h, 48h, 49h, 4Ch, 53h or 54h; any other is dropped and ends the command.
 -- 49h: power-up for the default font. 53h: flickerless on.

@@ -4,8 +4,8 @@ use mathlib.Core.Bool.{Bool, true, false, cond, not}
 use mathlib.Core.List.{List}
 use Prim.Native.Nat.{ℕ}
 use lib.Dec.{eqb}
-use borrow.Author.Tests.{eqb-true, eq-eqb, ne-eqb}
-use Rattle.laws.proofs.Tests.{by-test}
+use borrow.Author.Tests.{eq-eqb, ne-eqb}
+use Rattle.laws.proofs.Tests.{number-by}
 use Rattle.condition.specs.declared.Condition.{Condition}
 use Rattle.condition.specs.declared.Outcome.{Outcome}
 use Rattle.condition.specs.Condition.{wellFormed, powerUpAnswer}
@@ -29,7 +29,7 @@ opened-number : (b : List ℕ) (g : Outcome) → g ≡ openedOf b → g .refusal
 unfolding openedOf
 opened-number b g e =
     ap (λ (o : Outcome). o .refusal) e
-    ∙ by-test (λ (o : Outcome). o .refusal ≡ damageOf b) (eqb (damageOf b) 0) (λ t. sym (eqb-true (damageOf b) 0 t)) (λ _. refl)
+    ∙ number-by (λ (o : Outcome). o .refusal) (damageOf b) refl refl
 
 module _ (b : List ℕ) (g : Outcome) (o : g ≡ openedOf b) where
   -- a damaged block is refused so, whatever the call would answer

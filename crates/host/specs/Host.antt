@@ -29,5 +29,5 @@ baseOf Plan = 256
 baseOf Question = 65536
 
 -- an answer as one number: the value, or a base plus the refusal
-unfoldable pub hostAnswer : ℕ → ℕ → ℕ → ℕ
-hostAnswer base refusal value = cond (eqb refusal 0) value (base + refusal)
+unfoldable pub hostAnswer : Base → ℕ → ℕ → ℕ
+hostAnswer base refusal value = cond (eqb refusal 0) value (baseOf base + refusal)

@@ -40,7 +40,7 @@ fn base_of(base: Base) -> u32
 
 // An answer as one number: the value, or a base plus the refusal.
 pub fn answer(base: Base, refusal: u8, value: u32) -> u32
-    ensures { λ r. ⌜ r ≡ hostAnswer (baseOf base) refusal value ⌝ }
+    ensures { λ r. ⌜ r ≡ hostAnswer base refusal value ⌝ }
 {
     if refusal != 0 {
         return base_of(base) + (refusal as u32);

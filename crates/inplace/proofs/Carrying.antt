@@ -4,10 +4,10 @@ use mathlib.Core.Path.{_≡_, refl, sym, ap, _∙_}
 use mathlib.Core.Bool.{true, false, cond, not}
 use mathlib.Core.List.{List}
 use native.Mathlib.Omega.{arith}
-use lib.Dec.{eqb, ltb}
+use lib.Dec.{ltb}
 use lib.ListN.{length}
-use borrow.Author.Tests.{eqb-true, eq-eqb, ne-eqb, lt-ltb, le-ltb, ltb-false, not-false}
-use Rattle.laws.proofs.Tests.{by-test, passed}
+use borrow.Author.Tests.{eq-eqb, ne-eqb, lt-ltb, le-ltb, ltb-false, not-false}
+use Rattle.laws.proofs.Tests.{passed, number-by}
 use Rattle.condition.specs.declared.Condition.{Condition}
 use Rattle.condition.specs.Condition.{wellFormed}
 use Rattle.condition.proofs.Good.{Sized}
@@ -50,8 +50,7 @@ module _ (c : Condition) (bs : List ℕ) (r : After) where
   unfolding afterOf
   refusal-is e =
       ap (λ (a : After). a .refusal) e
-      ∙ by-test (λ (a : After). a .refusal ≡ carryRefusal c bs) (eqb (carryRefusal c bs) 0)
-      (λ t. sym (eqb-true (carryRefusal c bs) 0 t)) (λ _. refl)
+      ∙ number-by (λ (a : After). a .refusal) (carryRefusal c bs) refl refl
 
   pub taken : r ≡ afterOf c bs → r .refusal ≡ 0 → Carried c bs (r .condition) (r .busy) (r .flickerless)
   unfolding afterOf

@@ -16,7 +16,8 @@ use Rattle.condition.specs.Set.{withCursor, withScrolling, withShown, withFont,
 use Rattle.condition.specs.Set.{withFlickerless, withUsers, withPending, withCells, goTo}
 use Rattle.condition.specs.Bytes.{modeOf, internationalOf}
 use Rattle.layout.specs.Layout.{conditionIn, pendingOf}
-use Rattle.layout.proofs.Parts.{part-length, cut-parts, in-codes, past-codes, past-fonts, up-to-fonts, in-fonts, in-users}
+use Rattle.laws.proofs.Lists.{part-length}
+use Rattle.layout.proofs.Parts.{cut-parts, in-codes, past-codes, past-fonts, up-to-fonts, in-fonts, in-users}
 use Rattle.inplace.specs.InPlace.{blankOf, heldIn, releasedIn, resetIn, withUserBytes, definedIn}
 
 -- a property of every list of n elements or more, by its first n elements

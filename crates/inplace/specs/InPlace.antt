@@ -2,16 +2,13 @@
 use Prim.Native.Nat.{ℕ}
 use mathlib.Core.Path.{_≡_}
 use mathlib.Core.List.{List}
-use mathlib.Core.Bool.{true, false, cond}
 use lib.ListN.{set, replicate}
-use lib.Dec.{eqb}
 use Rattle.row.specs.Row.{lineStart, shifted}
 use Rattle.users.specs.Users.{defineOf, usersIn}
 use Rattle.condition.specs.declared.Condition.{Condition}
-use Rattle.condition.specs.declared.Pending.the-variants.{Escape}
 use Rattle.condition.specs.Condition.{powerUp}
-use Rattle.condition.specs.Set.{withCells, withShown, withFont, withEuro, withUsers, withPending, withHeld}
-use Rattle.condition.specs.Bytes.{modeOf, internationalOf, stepOf, runOf}
+use Rattle.condition.specs.Set.{withCells, withUsers, withHeld}
+use Rattle.condition.specs.Bytes.{stepOf, runOf}
 use Rattle.condition.specs.Busy.{figureOf, busyOf, flickerlessOf}
 
 -- the cursor's line shifts left one, and the code b comes to its column 19
@@ -40,28 +37,6 @@ releasedIn c = withHeld c (replicate 4 0)
 -- power-up for a font, but for the cells and the bytes of the user characters
 abbrev pub resetIn : Condition → ℕ → Condition
 resetIn c f = withUsers (withCells (powerUp f) (c .codes) (c .fonts)) (usersIn (c .users .bytes) 0)
-
--- 18h to 1Bh: the font, Euro, and ESC; any other byte is ignored
-unfoldable pub selectOf : Condition → ℕ → Condition
-selectOf c b =
-    cond (eqb b 0x18) (internationalOf c)
-    (cond (eqb b 0x19) (withFont c 1)
-    (cond (eqb b 0x1A) (withEuro c true)
-    (cond (eqb b 0x1B) (withPending c Escape)
-    c)))
-
--- 11h to 17h: the mode, and the cursor shown or not; then as above. It is what `controlOf` gives for a byte that is none of
--- 08h, 09h, 0Ah and 0Ch to 0Fh.
-unfoldable pub settingOf : Condition → ℕ → Condition
-settingOf c b =
-    cond (eqb b 0x11) (modeOf c 1)
-    (cond (eqb b 0x12) (modeOf c 2)
-    (cond (eqb b 0x13) (modeOf c 3)
-    (cond (eqb b 0x14) (withShown c false)
-    (cond (eqb b 0x15) (withShown c true)
-    (cond (eqb b 0x16) (withShown c false)
-    (cond (eqb b 0x17) (withShown c false)
-    (selectOf c b)))))))
 
 -- a byte carried out: the condition after it, and its busy figure
 pub record Stepped (c : Condition) (b : ℕ) (after : Condition) (figure : ℕ) : Type 0 where

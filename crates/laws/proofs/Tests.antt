@@ -1,7 +1,7 @@
 -- Tests: what one tells, alone or joined with another. (`or-true`, `and-false`, `and-not-self` and their like are in
 -- mathlib.Core.Bool; what tests of numbers tell is in borrow.Author.Tests.)
 use mathlib.Core.Path.{_≡_, refl, sym, _∙_, subst}
-use mathlib.Core.Logic.{_⊎_, inl, inr, ⊎-elim}
+use mathlib.Core.Logic.{_⊎_, inl, inr}
 use mathlib.Core.Bool.{Bool, true, false, cond, _&&_, _||_}
 use Prim.Native.Nat.{ℕ, suc}
 use native.Mathlib.Omega.{arith}
@@ -36,7 +36,15 @@ pub passed : (t : Bool) (n r : ℕ) → cond t (suc n) r ≡ 0 → (t ≡ false)
 passed true n r e = absurd (omega arith)
 passed false n r e = (refl, e)
 
--- a number is 0 or it is not
-pub zero-or : (n : ℕ) → (n ≡ 0) ⊎ (n ≡ 0 → ⊥)
-zero-or n =
-    ⊎-elim (λ (e : eqb n 0 ≡ true). inl (eqb-true n 0 e)) (λ (e : eqb n 0 ≡ false). inr (eqb-false n 0 e)) (bool (eqb n 0))
+-- an answer by its refusal number has that number
+pub number-by : {A : Type 0} (number : A → ℕ) (n : ℕ) {a b : A} → number a ≡ 0 → number b ≡ n → number (cond (eqb n 0) a b) ≡ n
+number-by {A} number n ea eb =
+    by-test (λ (x : A). number x ≡ n) (eqb n 0) (λ t. ea ∙ sym (eqb-true n 0 t)) (λ _. eb)
+
+-- two numbers are equal or they are not
+pub by-equal : {P : Type 0} (i k : ℕ) → (i ≡ k → P) → ((i ≡ k → ⊥) → P) → P
+by-equal {P} i k f g = go (eqb i k) refl
+  where
+    go : (t : Bool) → eqb i k ≡ t → P
+    go true e = f (eqb-true i k e)
+    go false e = g (eqb-false i k e)

@@ -15,7 +15,8 @@ use Rattle.condition.specs.declared.Pending.the-variants.{Nothing, Escape, Posi
 use Rattle.condition.specs.Condition.{heldOf, powerUp}
 use Rattle.layout.specs.Layout.{flag, kindOf, codeOf, headOf, packedOf, pendingOf, conditionIn, unpackedOf}
 use Rattle.condition.proofs.Good.{Sized}
-use Rattle.layout.proofs.Parts.{part-length, copied, cut-parts, in-codes, in-fonts, in-users}
+use Rattle.laws.proofs.Lists.{part-length}
+use Rattle.layout.proofs.Parts.{copied, cut-parts, in-codes, in-fonts, in-users}
 
 -- bytes that hold a condition, and bytes that are too few
 pub enough : (s : List ℕ) → 200 ≤ length s → unpackedOf s ≡ conditionIn s

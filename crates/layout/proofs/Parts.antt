@@ -3,24 +3,17 @@ use Prim.Native.Nat.{ℕ, _+_, _≤_}
 use mathlib.Core.Path.{_≡_, refl, ap, sym, _∙_}
 use mathlib.Core.List.{List, [], _++_, append-assoc, append-nil}
 use native.Mathlib.Omega.{arith}
-use lib.ListN.{length, take, drop, replicate, length-append, length-drop, length-replicate, drop-of-length-le, take-append-drop}
+use lib.ListN.{length, take, drop, replicate, length-append, length-drop, length-replicate, drop-of-length-le}
 use lib.Seq.{take-at, drop-at, drop-drop, take-add, length-take-le}
+use Rattle.laws.proofs.Lists.{part-length, cut}
 use Rattle.row.specs.Row.{laid}
 use Rattle.row.proofs.Laws.{filled}
-
--- a part has its length
-pub part-length : (at n : ℕ) (s : List ℕ) → at + n ≤ length s → length (take n (drop at s)) ≡ n
-part-length at n s h = length-take-le n (drop at s) (simp length-drop (omega arith))
 
 -- a part, copied to a place of its own
 pub copied : (s : List ℕ) (at n : ℕ) → at + n ≤ length s → laid (take n (drop at s)) (replicate n 0) ≡ take n (drop at s)
 copied s at n h = filled (take n (drop at s)) (replicate n 0) n (part-length at n s h) (length-replicate n 0)
 
 -- Cut into parts -------------------------------------------------------------------------------------------------------------
-
--- n bytes, and what stands behind them
-pub cut : (at n : ℕ) (s : List ℕ) → drop at s ≡ take n (drop at s) ++ drop (at + n) s
-cut at n s = rw (← drop-drop n at s) (sym (take-append-drop n (drop at s)))
 
 -- from `at` on: codes, fonts, user characters, and what stands behind them
 pub cut-parts : (at : ℕ) (s : List ℕ) → drop at s

@@ -152,7 +152,7 @@ partly-ready c a r h = record { one = r .one; still = r .still; inside = h; whol
 
 -- a string of moves that leads from a to b brings the cursor there, and changes nothing else
 module _ (c : Condition) (r : Ready c) (free : (m : ℕ) → any (eqb m) moves ≡ true → isUser (c .users) m ≡ false)
-    (free27 : isUser (c .users) 0x1B ≡ false) where
+    (free1B : isUser (c .users) 0x1B ≡ false) where
   leads-there : (bs : List ℕ) (k : Jump) (a b : ℕ) → a < 40 → leadsTo k a b bs ≡ true → runOf (partly c k a) bs ≡ partly c none b
   unfolding runOf leadsTo escapeOf stepAt
   leads-there [] none a b h l = ap (partly c none) (eqb-true a b l)
@@ -163,7 +163,7 @@ module _ (c : Condition) (r : Ready c) (free : (m : ℕ) → any (eqb m) moves �
       let g = partly-ready c a r h in
       ⊎-elim
       (λ (e : eqb x 0x1B ≡ true).
-      ap (λ (d : Condition). runOf d xs) (ap (stepOf d) (eqb-true x 0x1B e) ∙ escapes d g free27)
+      ap (λ (d : Condition). runOf d xs) (ap (stepOf d) (eqb-true x 0x1B e) ∙ escapes d g free1B)
       ∙ leads-there xs escape a b h (rw e at l))
       (λ (e : eqb x 0x1B ≡ false). let o = rw e at l in
       let i : any (eqb x) moves ≡ true = both (any (eqb x) moves) _ o .0 in
@@ -189,10 +189,10 @@ move-law c m w one p u i = moves-to c (ready c w one p) m (sym (is-move m) ∙ i
 pub string-law : (c : Condition) (bs : List ℕ) (b : ℕ) → wellFormed c ≡ true → c .mode ≡ 1 → idle (c .pending) ≡ true
     → ((m : ℕ) → any (eqb m) moves ≡ true → isUser (c .users) m ≡ false) → isUser (c .users) 0x1B ≡ false
     → leadsTo none (c .cursor) b bs ≡ true → runOf c bs ≡ withCursor c b
-string-law c bs b w one p free free27 l =
+string-law c bs b w one p free free1B l =
     let r = ready c w one p in
     ap (λ (d : Condition). runOf d bs) (λ i. withPending c (r .whole i))
-    ∙ leads-there c r free free27 bs none (c .cursor) b (r .inside) l
+    ∙ leads-there c r free free1B bs none (c .cursor) b (r .inside) l
     ∙ (λ i. withPending (withCursor c b) (sym (r .whole) i))
 
 -- what is shown of a condition, shown of one that is the same

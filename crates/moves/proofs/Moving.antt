@@ -7,7 +7,7 @@ use native.Mathlib.Omega.{arith}
 use lib.Dec.{eqb, ltb}
 use lib.ListN.{length}
 use borrow.Author.Tests.{eqb-true, eq-eqb, ltb-true, ltb-false}
-use Rattle.laws.proofs.Tests.{bool, clash}
+use Rattle.laws.proofs.Tests.{bool, clash, by-test}
 use Rattle.row.specs.Row.{lineStart}
 use Rattle.moves.specs.Moves.{any, find, left, next, down, moves, move, near1, near2, rank, dist}
 use Rattle.moves.specs.Ways.{leaves, firstByte, pathOf, path}
@@ -136,8 +136,7 @@ unfolding lineStart
 start-below p = ⊎-elim (λ e. rw e (omega arith)) (λ e. rw e (omega arith)) (bool (ltb p 20))
 
 either-below : (b : Bool) (x y : ℕ) → x < 40 → y < 40 → cond b x y < 40
-either-below true x y hx hy = hx
-either-below false x y hx hy = hy
+either-below b x y hx hy = by-test (λ (n : ℕ). n < 40) b (λ _. hx) (λ _. hy)
 
 pub move-below : (m p : ℕ) → p < 40 → move m p < 40
 unfolding move

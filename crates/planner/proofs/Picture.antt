@@ -171,7 +171,7 @@ module _ (switching mark : Bool) (chars : ℕ → Bool) (Ok : ℕ → Type 0) (f
   unfolding stepAt allowed lowAt
   put-paints p lo b f cs fs t e h g = record { steps = rw (e, le-leb lo p h) (g .steps); final = rw e (g .final) }
 
-  module _ (free27 : chars 0x1B ≡ false) (free : (b : ℕ) → any (eqb b) moves ≡ true → chars b ≡ false) where
+  module _ (free1B : chars 0x1B ≡ false) (free : (b : ℕ) → any (eqb b) moves ≡ true → chars b ≡ false) where
     move-paints : (m p lo f : ℕ) (cs fs t : List ℕ) → any (eqb m) moves ≡ true → eqb m 0x1B ≡ false
         → Paints (canvas none (move m p) f cs fs) lo t → Paints (canvas none p f cs fs) lo (m ∷ t)
     unfolding stepAt allowed lowAt
@@ -183,7 +183,7 @@ module _ (switching mark : Bool) (chars : ℕ → Bool) (Ok : ℕ → Type 0) (f
         → Paints (canvas none r f cs fs) lo t → Paints (canvas none p f cs fs) lo (0x1B ∷ 0x48 ∷ r ∷ t)
     unfolding stepAt allowed lowAt
     jump-paints p lo r f cs fs t h g =
-        record { steps = rw (free27, le-leb r 0x27 (omega arith)) (g .steps); final = rw free27 (g .final) }
+        record { steps = rw (free1B, le-leb r 0x27 (omega arith)) (g .steps); final = rw free1B (g .final) }
 
     walk-paints : (n a b lo f : ℕ) (cs fs t : List ℕ) → dist a b ≡ n → b < 40 → Paints (canvas none b f cs fs) lo t
         → Paints (canvas none a f cs fs) lo (pathOf n a b ++ t)

@@ -37,9 +37,9 @@ fontOrder c bs = eqb (c .mode) 1 && inFontOrder (c .euro) c 0 bs
 
 -- The plan ----------------------------------------------------------------------------------------------------------------------
 
--- a cell is wrong when its code or its font differs from the wanted one, which are code1 and font1 here
+-- a cell is wrong when its code or its font differs from the wanted one
 abbrev pub wrongCell : ℕ → ℕ → ℕ → ℕ → Bool
-wrongCell code font code1 font1 = not (eqb code code1 && eqb font font1)
+wrongCell code font wantedCode wantedFont = not (eqb code wantedCode && eqb font wantedFont)
 
 unfoldable pub wrongFor : Condition → List ℕ → List ℕ → ℕ → Bool
 wrongFor c wanted fonts i = wrongCell (getD (c .codes) i 0) (getD (c .fonts) i 0) (getD wanted i 0) (getD fonts i 0)

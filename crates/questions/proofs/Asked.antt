@@ -12,13 +12,14 @@ use Rattle.glass.specs.declared.Answer.{Answer}
 use Rattle.glass.specs.Answers.{viewAnswer, dotAnswer, underlineAnswer, litAnswer}
 use Rattle.glass.proofs.Refusals.{view-unformed, dot-unformed, underline-unformed, lit-unformed}
 use Rattle.layout.specs.Layout.{conditionIn}
+use Rattle.host.specs.declared.Base.the-variants.{Question}
 use Rattle.host.specs.Host.{openedOf, hostAnswer}
 use Rattle.host.proofs.Once.{damaged-by, in-block, left-to}
 use Rattle.questions.specs.Questions.{showsNumber, hostAsked, hostTold, hostView, hostDot, hostUnderline, hostLit}
 
 module _ (b : List ℕ) (g : Outcome) (o : g ≡ openedOf b) where
   -- the block is damaged, whatever is asked
-  pub asked-damaged : (n v : ℕ) → (g .refusal ≡ 0 → ⊥) → hostAnswer 65536 (g .refusal) 0 ≡ hostAsked b n v
+  pub asked-damaged : (n v : ℕ) → (g .refusal ≡ 0 → ⊥) → hostAnswer Question (g .refusal) 0 ≡ hostAsked b n v
   unfolding hostAsked hostAnswer
   asked-damaged n v bad = rw (damaged-by b g o n bad) (simp (ne-eqb (g .refusal) 0 bad))
 
@@ -27,32 +28,32 @@ module _ (b : List ℕ) (g : Outcome) (o : g ≡ openedOf b) where
     asked-in : {A : Type 0} (ask : Condition → A) (number value : A → ℕ)
         → (wellFormed (conditionIn b) ≡ false → number (ask (conditionIn b)) ≡ 3)
         → (a : A) → a ≡ ask (g .condition)
-        → hostAnswer 65536 (number a) (value a) ≡ hostAsked b (number (ask (conditionIn b))) (value (ask (conditionIn b)))
+        → hostAnswer Question (number a) (value a) ≡ hostAsked b (number (ask (conditionIn b))) (value (ask (conditionIn b)))
     unfolding hostAsked
     asked-in ask number value u a e = rw (e ∙ ap ask (in-block b g o z), left-to b g o z _ u)
 
     told-in : (ask : Condition → Answer) → (wellFormed (conditionIn b) ≡ false → ask (conditionIn b) .refusal ≡ 3)
-        → (a : Answer) → a ≡ ask (g .condition) → hostAnswer 65536 (a .refusal) (a .value) ≡ hostTold b (ask (conditionIn b))
+        → (a : Answer) → a ≡ ask (g .condition) → hostAnswer Question (a .refusal) (a .value) ≡ hostTold b (ask (conditionIn b))
     told-in ask = asked-in ask (λ (a : Answer). a .refusal) (λ (a : Answer). a .value)
 
     pub view-in : (position : ℕ) (s : Seen) → s ≡ viewAnswer (g .condition) position
-        → hostAnswer 65536 (s .refusal) (showsNumber (s .shows)) ≡ hostView b position
+        → hostAnswer Question (s .refusal) (showsNumber (s .shows)) ≡ hostView b position
     unfolding hostView
     view-in position =
         asked-in (λ (c : Condition). viewAnswer c position) (λ (s : Seen). s .refusal) (λ (s : Seen). showsNumber (s .shows))
         (λ w. view-unformed (conditionIn b) w position)
 
     pub dot-in : (code k : ℕ) (a : Answer) → a ≡ dotAnswer (g .condition) code k
-        → hostAnswer 65536 (a .refusal) (a .value) ≡ hostDot b code k
+        → hostAnswer Question (a .refusal) (a .value) ≡ hostDot b code k
     unfolding hostDot
     dot-in code k = told-in (λ (c : Condition). dotAnswer c code k) (λ w. dot-unformed (conditionIn b) w code k)
 
     pub underline-in : (code : ℕ) (a : Answer) → a ≡ underlineAnswer (g .condition) code
-        → hostAnswer 65536 (a .refusal) (a .value) ≡ hostUnderline b code
+        → hostAnswer Question (a .refusal) (a .value) ≡ hostUnderline b code
     unfolding hostUnderline
     underline-in code = told-in (λ (c : Condition). underlineAnswer c code) (λ w. underline-unformed (conditionIn b) w code)
 
     pub lit-in : (code : ℕ) (a : Answer) → a ≡ litAnswer (g .condition) code
-        → hostAnswer 65536 (a .refusal) (a .value) ≡ hostLit b code
+        → hostAnswer Question (a .refusal) (a .value) ≡ hostLit b code
     unfolding hostLit
     lit-in code = told-in (λ (c : Condition). litAnswer c code) (λ w. lit-unformed (conditionIn b) w code)

@@ -8,6 +8,7 @@ use Rattle.glass.specs.declared.Shows.the-variants.{Blank, User, Euro, BuiltIn}
 use Rattle.glass.specs.declared.Answer.{Answer}
 use Rattle.glass.specs.Answers.{viewAnswer, dotAnswer, underlineAnswer, litAnswer}
 use Rattle.layout.specs.Layout.{conditionIn}
+use Rattle.host.specs.declared.Base.the-variants.{Question}
 use Rattle.host.specs.Host.{hostRefusalBy, hostAnswer}
 
 -- what a cell shows, as a number: 0 blank, 256 + code a user character, 512 Euro, 768 + code built-in in font 0, 1024 + code in
@@ -24,7 +25,7 @@ showsNumber (BuiltIn code font) = builtInNumber code font
 -- a question answers its value, or 65,536 plus the refusal. 1, 2 and 3: as reading the block; 3: as the question about the
 -- condition that stands there
 unfoldable pub hostAsked : List ℕ → ℕ → ℕ → ℕ
-hostAsked b refusal value = hostAnswer 65536 (hostRefusalBy true b refusal) value
+hostAsked b refusal value = hostAnswer Question (hostRefusalBy true b refusal) value
 
 abbrev pub hostTold : List ℕ → Answer → ℕ
 hostTold b a = hostAsked b (a .refusal) (a .value)

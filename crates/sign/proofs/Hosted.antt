@@ -1,14 +1,13 @@
 -- What the host's calls leave, by where they stop.
 use mathlib.Core.Path.{_≡_, refl, sym, ap, _∙_, subst}
-use mathlib.Core.Logic.{_⊎_, inl, inr, ⊎-elim}
-use mathlib.Core.Bool.{Bool, true, false, cond, not}
+use mathlib.Core.Bool.{Bool, true, false, cond}
 use mathlib.Core.List.{List}
 use Prim.Native.Nat.{ℕ, _+_, _<_}
 use native.Mathlib.Omega.{arith}
 use lib.Dec.{eqb, leb}
 use lib.ListN.{length, take}
-use borrow.Author.Tests.{eqb-true, eqb-false, eq-eqb, ne-eqb, leb-true}
-use Rattle.laws.proofs.Tests.{zero-or}
+use borrow.Author.Tests.{eq-eqb, ne-eqb, leb-true}
+use Rattle.laws.proofs.Tests.{by-equal}
 use Rattle.condition.specs.declared.Condition.{Condition}
 use Rattle.condition.specs.declared.Outcome.{Outcome}
 use Rattle.condition.specs.Condition.{wellFormed, powerUp, powerUpAnswer}
@@ -31,6 +30,7 @@ use Rattle.interpreter.specs.Run.{RunPromise, acceptedOf, refusedOf, runRefusal
 use Rattle.interpreter.proofs.Answers.{run-unformed}
 use Rattle.planner.specs.declared.Planned.{Planned}
 use Rattle.planner.specs.Answer.{bytesBy, Promise, Plans, PlansFonts}
+use Rattle.host.specs.declared.Base.the-variants.{Plan}
 use Rattle.host.specs.Host.{openedOf, hostRefusalBy, hostAnswer}
 use Rattle.host.proofs.Once.{damaged-by, whole, in-block, left-to}
 use Rattle.sign.specs.Calls.{tallyAt, tallyBytes, ranOf, hostRunRefusal, blockAfter, tallyAfter}
@@ -112,7 +112,7 @@ module _ (b t bs : List ℕ) (h : length t ≡ 12) where
 -- a call that is refused for its lengths, or for the block, or by the planner
 module _ (b : List ℕ) (n : ℕ) (bytes : List ℕ) (For : List ℕ → Type 0) (out : List ℕ) (long : Bool) where
   -- the refusal number of the call, and an answer by it
-  refused-by : (number k : ℕ) → number ≡ k → (k ≡ 0 → ⊥) → HostPromise number bytes For out (hostAnswer 256 k 0) out
+  refused-by : (number k : ℕ) → number ≡ k → (k ≡ 0 → ⊥) → HostPromise number bytes For out (hostAnswer Plan k 0) out
   unfolding hostAnswer bytesBy
   refused-by number k e bad =
       let t = ne-eqb k 0 bad in
@@ -122,30 +122,29 @@ module _ (b : List ℕ) (n : ℕ) (bytes : List ℕ) (For : List ℕ → Type 0)
         delivers = λ l. let z : 256 + k < 256 = rw t at l in absurd (omega arith);
       }
 
-  pub plan-short : long ≡ false → HostPromise (hostRefusalBy long b n) bytes For out (hostAnswer 256 1 0) out
+  pub plan-short : long ≡ false → HostPromise (hostRefusalBy long b n) bytes For out (hostAnswer Plan 1 0) out
   unfolding hostRefusalBy
   plan-short e = refused-by _ 1 (rw e) (λ z. omega arith)
 
   module _ (fit : long ≡ true) (g : Outcome) (o : g ≡ openedOf b) where
     pub plan-damaged : (g .refusal ≡ 0 → ⊥)
-        → HostPromise (hostRefusalBy long b n) bytes For out (hostAnswer 256 (g .refusal) 0) out
+        → HostPromise (hostRefusalBy long b n) bytes For out (hostAnswer Plan (g .refusal) 0) out
     plan-damaged bad = refused-by _ (g .refusal) (rw fit (damaged-by b g o n bad)) bad
 
     -- what the planner promises, given on
     pub plan-done : (r : Planned) (k : ℕ) (left : List ℕ) → g .refusal ≡ 0 → (wellFormed (conditionIn b) ≡ false → n ≡ 3)
         → Promise n bytes For out left r
-        → k ≡ hostAnswer 256 (r .refusal) (r .length) → HostPromise (hostRefusalBy long b n) bytes For out k left
+        → k ≡ hostAnswer Plan (r .refusal) (r .length) → HostPromise (hostRefusalBy long b n) bytes For out k left
     unfolding hostAnswer bytesBy
     plan-done r k left ok u q e =
         rw (fit, left-to b g o ok n u)
-        (⊎-elim (λ (z : n ≡ 0). let ra : r .refusal ≡ 0 = ap (λ (y : Planned). y .refusal) (q .answer) ∙ z in
+        (by-equal n 0 (λ (z : n ≡ 0). let ra : r .refusal ≡ 0 = ap (λ (y : Planned). y .refusal) (q .answer) ∙ z in
         let rl : r .length ≡ length bytes = ap (λ (y : Planned). y .length) (q .answer) ∙ rw (eq-eqb n 0 z) in
         let ek : k ≡ r .length = e ∙ rw (eq-eqb (r .refusal) 0 ra) in
         record { answer = rw (eq-eqb n 0 z) (ek ∙ rl); buffer = q .output; delivers = λ l. rw ek (q .delivers ra) })
         (λ (z : n ≡ 0 → ⊥). let ra : r .refusal ≡ n = ap (λ (y : Planned). y .refusal) (q .answer) in
         let ek : k ≡ 256 + n = e ∙ rw (ne-eqb (r .refusal) 0 (λ (h : r .refusal ≡ 0). z (sym ra ∙ h)), ra) in
-        record { answer = rw (ne-eqb n 0 z) ek; buffer = q .output; delivers = λ l. absurd (omega arith) })
-        (zero-or n))
+        record { answer = rw (ne-eqb n 0 z) ek; buffer = q .output; delivers = λ l. absurd (omega arith) }))
 
 -- the planner's promise of the condition at hand, as one of the condition in the block
 module _ (b : List ℕ) (c : Condition) (e : c ≡ conditionIn b) where

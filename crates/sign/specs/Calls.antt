@@ -10,6 +10,7 @@ use Rattle.condition.specs.Condition.{powerUp}
 use Rattle.layout.specs.Layout.{conditionIn}
 use Rattle.block.specs.Block.{blockOf}
 use Rattle.block.specs.Reading.{readRefusal}
+use Rattle.host.specs.declared.Base.the-variants.{Plan}
 use Rattle.host.specs.Host.{hostRefusalBy, hostAnswer}
 use Rattle.interpreter.specs.declared.Tally.{Tally}
 use Rattle.interpreter.specs.declared.Ran.{Ran}
@@ -71,7 +72,7 @@ hostFontsRefusal b codes fonts cursor out =
 -- and its bytes: a refused one leaves it as it was, and an answer below 256 says that so many bytes stand at its start, which
 -- are what the plan is for
 pub record HostPromise (number : ℕ) (bytes : List ℕ) (For : List ℕ → Type 0) (out : List ℕ) (r : ℕ) (left : List ℕ) : Type 0 where
-  pub answer : r ≡ hostAnswer 256 number (length bytes)
+  pub answer : r ≡ hostAnswer Plan number (length bytes)
   pub buffer : left ≡ outBy number bytes out
   pub delivers : r < 256 → For (take r left)
 

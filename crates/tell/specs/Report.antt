@@ -1,6 +1,6 @@
 -- What `tell` prints: what each cell shows, each user character with its dots, and the tally.
 use Prim.Native.Nat.{ℕ, _+_, _*_, min}
-use mathlib.Core.List.{List, [], _∷_, _++_}
+use mathlib.Core.List.{List, _++_}
 use lib.ListN.{getD}
 use Rattle.condition.specs.declared.Condition.{Condition}
 use Rattle.glass.specs.declared.Shows.{Shows}

@@ -2,14 +2,14 @@
 use Prim.Native.Nat.{ℕ, zero, suc, _+_, _-_, _*_, _/_, _%_, _<_, _≤_}
 use mathlib.Core.Path.{_≡_, refl, sym, ap, _∙_}
 use mathlib.Core.List.{List}
-use mathlib.Core.Bool.{Bool, true, false, cond}
+use mathlib.Core.Bool.{false}
 use native.Mathlib.Omega.{arith}
 use native.Mathlib.Nat.{add-zero}
 use lib.ListN.{length, getD, drop, length-append, length-drop, length-set, List·getD-append, List·getD-eq-default}
 use lib.Seq.{getD-set-same, getD-set-other, lt-length-set, getD-drop}
 use lib.Dec.{eqb, ltb}
 use borrow.Author.Tests.{eqb-true, eqb-false, ltb-true, ltb-false}
-use Rattle.laws.proofs.Tests.{by-test}
+use Rattle.laws.proofs.Tests.{by-test, by-equal}
 use Rattle.row.specs.Row.{advanced}
 use Rattle.users.specs.declared.Users.{Users}
 use Rattle.users.specs.declared.Found.{Found}
@@ -119,13 +119,6 @@ record Others (n k code : ℕ) (l : List ℕ) : Type 0 where
   apart : (i j : ℕ) → i < n → j < n → (i ≡ k → ⊥) → (j ≡ k → ⊥) → getD l (i * 6) 0 ≡ getD l (j * 6) 0 → i ≡ j
   new : (i : ℕ) → i < n → (i ≡ k → ⊥) → getD l (i * 6) 0 ≡ code → ⊥
   rest : (i : ℕ) → n * 6 ≤ i → getD l i 0 ≡ 0
-
-by-equal : {P : Type 0} (i k : ℕ) → (i ≡ k → P) → ((i ≡ k → ⊥) → P) → P
-by-equal {P} i k f g = go (eqb i k) refl
-  where
-    go : (t : Bool) → eqb i k ≡ t → P
-    go true e = f (eqb-true i k e)
-    go false e = g (eqb-false i k e)
 
 -- then the code put at k, with a fifth byte below 16, makes all of them well formed
 module _ (n k code : ℕ) (l held : List ℕ) (last : ℕ) (o : Others n k code l) (in-k : k < n) (in-l : n * 6 ≤ length l)

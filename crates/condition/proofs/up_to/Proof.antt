@@ -1,6 +1,6 @@
 use mathlib.Core.Path.{_≡_, refl, sym, _∙_}
 use mathlib.Core.Logic.{_⊎_, inl, inr, ⊎-elim}
-use mathlib.Core.Bool.{Bool, true, false, _&&_, and-false}
+use mathlib.Core.Bool.{Bool, true, false, _&&_, and-false, and-true}
 use mathlib.Core.List.{List}
 use Prim.Native.Nat.{ℕ, suc, _+_, _-_, _<_, _≤_}
 use native.Mathlib.Numerals.{add-one}
@@ -33,11 +33,7 @@ turned n s i m k h hm hx hk = rw (add-one i, drop-cons s i 0 h) (go (leb k n) re
 
 ended : (n : ℕ) (s : List ℕ) (i m : ℕ) → length s ≤ i → (leb m n && allUpTo n (drop i s)) ≡ leb m n
 unfolding allUpTo
-ended n s i m h = rw (drop-of-length-le s h) (go (leb m n))
-  where
-    go : (t : Bool) → (t && true) ≡ t
-    go true = refl
-    go false = refl
+ended n s i m h = rw (drop-of-length-le s h) (and-true (leb m n))
 
 abbrev Inv-loop : tie.InvT-loop
 Inv-loop n s most₀ i₀ most i = (allUpTo n s ≡ (leb most n && allUpTo n (drop i s))) × (i ≤ length s)

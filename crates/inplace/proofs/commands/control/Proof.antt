@@ -1,5 +1,4 @@
 use Rattle.condition.specs.Bytes.{controlOf}
-use Rattle.inplace.specs.InPlace.{settingOf, selectOf}
 use Rattle.inplace.proofs.Tests.{tests}
 use borrow.Author.Needs.{needs}
 use Rattle.inplace.proofs.commands.control.Statement.{statement}
@@ -82,7 +81,7 @@ same-length-8 : tie.Need-same-length-8
 same-length-8 c = search needs
 
 returns-8 : tie.Need-returns-8
-unfolding controlOf settingOf selectOf
+unfolding controlOf
 returns-8 c = rw (c .before .before .setting .ensures) (search (tests, c .before .before .before .before .match .rest))
 
 pub control-spec : {M : Type 1} → statement M

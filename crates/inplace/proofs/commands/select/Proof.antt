@@ -1,4 +1,3 @@
-use Rattle.inplace.specs.InPlace.{selectOf}
 use Rattle.inplace.proofs.Tests.{tests}
 use borrow.Author.Needs.{needs}
 use Rattle.inplace.proofs.commands.select.Statement.{statement}
@@ -20,32 +19,27 @@ same-length : tie.Need-same-length
 same-length c = search needs
 
 returns : tie.Need-returns
-unfolding selectOf
 returns c = rw (c .before .before .international .ensures, c .before .before .before .before .match .keys1)
 
 same-length-2 : tie.Need-same-length-2
 same-length-2 c = search needs
 
 returns-2 : tie.Need-returns-2
-unfolding selectOf
 returns-2 c = rw (c .before .before .katakana .ensures, c .before .before .before .before .match .keys2)
 
 same-length-3 : tie.Need-same-length-3
 same-length-3 c = search needs
 
 returns-3 : tie.Need-returns-3
-unfolding selectOf
 returns-3 c = rw (c .before .before .euro-on .ensures, c .before .before .before .before .match .keys3)
 
 same-length-4 : tie.Need-same-length-4
 same-length-4 c = search needs
 
 returns-4 : tie.Need-returns-4
-unfolding selectOf
 returns-4 c = rw (c .before .before .set-pending .ensures, c .before .before .before .before .match .keys4)
 
 returns-5 : tie.Need-returns-5
-unfolding selectOf
 returns-5 c = search (tests, c .match .rest)
 
 pub select-spec : {M : Type 1} → statement M

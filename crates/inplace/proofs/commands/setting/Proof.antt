@@ -1,4 +1,3 @@
-use Rattle.inplace.specs.InPlace.{settingOf}
 use Rattle.inplace.proofs.Tests.{tests}
 use borrow.Author.Needs.{needs}
 use Rattle.inplace.proofs.commands.setting.Statement.{statement}
@@ -32,56 +31,48 @@ same-length : tie.Need-same-length
 same-length c = search needs
 
 returns : tie.Need-returns
-unfolding settingOf
 returns c = rw (c .before .before .set-mode .ensures, c .before .before .before .before .match .keys1)
 
 same-length-2 : tie.Need-same-length-2
 same-length-2 c = search needs
 
 returns-2 : tie.Need-returns-2
-unfolding settingOf
 returns-2 c = rw (c .before .before .set-mode2 .ensures, c .before .before .before .before .match .keys2)
 
 same-length-3 : tie.Need-same-length-3
 same-length-3 c = search needs
 
 returns-3 : tie.Need-returns-3
-unfolding settingOf
 returns-3 c = rw (c .before .before .set-mode3 .ensures, c .before .before .before .before .match .keys3)
 
 same-length-4 : tie.Need-same-length-4
 same-length-4 c = search needs
 
 returns-4 : tie.Need-returns-4
-unfolding settingOf
 returns-4 c = rw (c .before .before .set-shown .ensures, c .before .before .before .before .match .keys4)
 
 same-length-5 : tie.Need-same-length-5
 same-length-5 c = search needs
 
 returns-5 : tie.Need-returns-5
-unfolding settingOf
 returns-5 c = rw (c .before .before .set-shown2 .ensures, c .before .before .before .before .match .keys5)
 
 same-length-6 : tie.Need-same-length-6
 same-length-6 c = search needs
 
 returns-6 : tie.Need-returns-6
-unfolding settingOf
 returns-6 c = rw (c .before .before .set-shown3 .ensures, c .before .before .before .before .match .keys6)
 
 same-length-7 : tie.Need-same-length-7
 same-length-7 c = search needs
 
 returns-7 : tie.Need-returns-7
-unfolding settingOf
 returns-7 c = rw (c .before .before .set-shown4 .ensures, c .before .before .before .before .match .keys7)
 
 same-length-8 : tie.Need-same-length-8
 same-length-8 c = search needs
 
 returns-8 : tie.Need-returns-8
-unfolding settingOf
 returns-8 c = rw (c .before .before .select .ensures) (search (tests, c .before .before .before .before .match .rest))
 
 pub setting-spec : {M : Type 1} → statement M
