@@ -19,7 +19,7 @@ use Rattle.planner.specs.Plan.{flagged, planOf, plan}
 use Rattle.planner.specs.Fonts.{wrongFor, switch, fontsPlanOf, fontsPlan}
 use Rattle.planner.specs.Answer.{onMove, onSwitch, lacks, someLacks, refusalBy, planRefusal, fontsRefusal}
 use Rattle.bench_sheet.specs.Sheet.{AllHold, dotsUpTo, sheet}
-use Rattle.bench_sheet.specs.Fonts.{fontsSheet}
+use Rattle.bench_sheet.specs.FontsSheet.{fontsSheet}
 
 pub bench : AllHold sheet
 unfolding powerUp runOf stepAt isChar isUser foundIn limitOf writeOf pushOf rightOf scrollOf scrolled shifted lineStart

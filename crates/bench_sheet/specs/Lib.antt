@@ -1,2 +1,2 @@
 pub mod Sheet
-pub mod Fonts
+pub mod FontsSheet

@@ -1,20 +1,20 @@
 -- Writing and reading go back and forth.
 use Prim.Native.Nat.{ℕ, _+_, _/_, _%_}
 use mathlib.Core.Path.{_≡_, refl, ap, sym, _∙_}
-use mathlib.Core.Bool.{Bool, true, false, cond, not, _&&_}
+use mathlib.Core.Bool.{true, not, _&&_}
 use mathlib.Core.List.{List, [], _∷_, _++_}
 use native.Mathlib.Omega.{arith}
 use lib.Dec.{eqb}
 use lib.ListN.{length, getD, length-append}
 use lib.Seq.{getD-at, append-snoc}
 use borrow.Author.Tests.{eqb-true, eq-eqb, not-false}
-use Rattle.laws.proofs.Tests.{both, passed, number-by}
+use Rattle.laws.proofs.Tests.{both, by-test, passed, number-by}
 use Rattle.condition.specs.declared.Condition.{Condition}
 use Rattle.condition.specs.declared.Outcome.{Outcome}
 use Rattle.condition.specs.Condition.{wellFormed}
 use Rattle.layout.specs.Layout.{headOf, packedOf, conditionIn}
 use Rattle.block.specs.Block.{checkOf, bodyOf, sealOf, blockOf}
-use Rattle.block.specs.Reading.{sameBytes, intact, sound, readRefusal, refusedOf, readAnswer}
+use Rattle.block.specs.Reading.{sameBytes, intact, sound, readRefusal, readAnswer}
 use Rattle.condition.proofs.Good.{Sized}
 use Rattle.condition.proofs.Kept.{power-up-good}
 use Rattle.layout.proofs.PackedBack.{back-with}
@@ -91,9 +91,6 @@ rewritten b e =
 -- power-up for font 0 is well formed, so every reading is
 pub read-formed : (b : List ℕ) → wellFormed (readAnswer b .condition) ≡ true
 unfolding readAnswer
-read-formed b = go (eqb (readRefusal b) 0) refl
-  where
-    go : (t : Bool) → eqb (readRefusal b) 0 ≡ t
-        → wellFormed (cond t (record { refusal = 0; condition = conditionIn b }) (refusedOf (readRefusal b)) .condition) ≡ true
-    go true h = accepted b (eqb-true _ _ h) .formed
-    go false h = power-up-good 0 (omega arith)
+read-formed b =
+    by-test (λ (o : Outcome). wellFormed (o .condition) ≡ true) (eqb (readRefusal b) 0)
+    (λ h. accepted b (eqb-true _ _ h) .formed) (λ _. power-up-good 0 (omega arith))

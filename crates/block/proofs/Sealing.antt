@@ -5,7 +5,7 @@ use mathlib.Core.Bool.{Bool, true, false, cond}
 use mathlib.Core.List.{List, [], _∷_, _++_, append-assoc, append-nil}
 use native.Mathlib.Omega.{arith}
 use lib.ListN.{length, getD, take, drop, set, replicate, length-append, drop-of-length-le}
-use lib.Seq.{drop-drop, drop-cons, drop-at, take-at, take-all, take-add, set-at, append-snoc}
+use lib.Seq.{drop-drop, drop-at, take-at, take-all, take-add, set-at, append-snoc}
 use borrow.Author.Tests.{lt-ltb, le-ltb}
 use Rattle.row.specs.Row.{laid}
 use Rattle.condition.specs.declared.Condition.{Condition}
@@ -15,7 +15,7 @@ use Rattle.layout.specs.Layout.{packedOf}
 use Rattle.block.specs.Block.{weigh, checkOf, bodyOf, sealOf, blockOf, putOver}
 use Rattle.block.specs.Tidy.{restZero}
 use Rattle.condition.proofs.Good.{Sized}
-use Rattle.laws.proofs.Lists.{part-length}
+use Rattle.laws.proofs.Lists.{part-length, bytewise}
 use Rattle.layout.proofs.PackedBack.{length-packed}
 
 pub length-body : (c : Condition) → Sized c → length (bodyOf c) ≡ 510
@@ -66,11 +66,6 @@ pub check-body : (b e : List ℕ) → length b ≡ 510 → checkOf (b ++ e) ≡ 
 unfolding checkOf
 check-body b e h = rw (take-at b e 510 h, take-all 510 b (omega arith))
 
--- the check's own two bytes
-pub two-bytes : (b : List ℕ) → 512 ≤ length b → drop 510 b ≡ getD b 510 0 ∷ getD b 511 0 ∷ drop 512 b
-two-bytes b h =
-    drop-cons b 510 0 (omega arith) ∙ ap (λ (r : List ℕ). getD b 510 0 ∷ r) (drop-cons b 511 0 (omega arith))
-
 -- two stores put the check behind the body b, in the place of x and y
 sealing : (b r : List ℕ) (k x y : ℕ) → length b ≡ 510 → k ≡ checkOf b
     → set (set (b ++ (x ∷ y ∷ r)) 510 (k % 256)) 511 (k / 256) ≡ sealOf b ++ r
@@ -115,7 +110,7 @@ put-block c z out first l x w h ef ew el ex =
     let m : length (take 310 (drop 200 out)) ≡ 310 = part-length 200 310 out (omega arith) in
     let y : x ≡ replicate 310 0 = rw (g, m) at ex in
     let d : drop 310 (drop 200 l) ≡ getD out 510 0 ∷ getD out 511 0 ∷ drop 512 out =
-    ap (drop 310) g ∙ drop-drop 310 200 out ∙ two-bytes out h in
+    ap (drop 310) g ∙ drop-drop 310 200 out ∙ bytewise 2 510 out h in
     let b : take 510 (bodyOf c) ≡ bodyOf c = take-all 510 (bodyOf c) (omega (arith, length-body c z)) in
     let k : w % 65521 ≡ checkOf (bodyOf c) = rw (b, weigh-over (packedOf c) 1 310, ew, ef) in
     rw (t, y, d, ← append-assoc (packedOf c) (replicate 310 0) (getD out 510 0 ∷ getD out 511 0 ∷ drop 512 out))

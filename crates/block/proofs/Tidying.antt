@@ -4,24 +4,24 @@ use mathlib.Core.Path.{_≡_, refl, ap, sym, _∙_}
 use mathlib.Core.Bool.{Bool, true, false, cond, _&&_}
 use mathlib.Core.List.{List, [], _∷_, _++_, append-assoc}
 use native.Mathlib.Omega.{arith}
-use native.Mathlib.Nat.{add-zero}
 use lib.Dec.{eqb, ltb, leb}
 use lib.ListN.{length, getD, take, drop, replicate, drop-of-length-le}
-use lib.Seq.{drop-cons, take-at, drop-at, getD-take, getD-drop}
-use borrow.Author.Tests.{eqb-true, eq-eqb, leb-true, ltb-true}
+use lib.Seq.{take-at, drop-at, getD-take, getD-drop}
+use borrow.Author.Tests.{eqb-true, eq-eqb, ltb-true, le-leb}
 use Rattle.laws.proofs.Tests.{both}
 use Rattle.condition.specs.declared.Condition.{Condition}
 use Rattle.condition.specs.declared.Pending.{Pending}
 use Rattle.condition.specs.declared.Pending.the-variants.{Nothing, Escape, Position, Luminance, Speed, UserCode, UserData}
-use Rattle.condition.specs.Condition.{heldOf, allUpTo}
-use Rattle.layout.specs.Layout.{flag, kindOf, codeOf, headOf, packedOf, pendingOf, conditionIn}
+use Rattle.condition.specs.Condition.{flag, heldOf, allUpTo}
+use Rattle.layout.specs.Layout.{kindOf, codeOf, headOf, packedOf, pendingOf, conditionIn}
 use Rattle.block.specs.Block.{checkOf, bodyOf, sealOf, blockOf}
 use Rattle.block.specs.Reading.{sameBytes, intact}
 use Rattle.block.specs.Tidy.{kindGood, restZero, tidy}
+use Rattle.condition.proofs.Flags.{flag-most, flag-fits}
 use Rattle.condition.proofs.Good.{Sized}
-use Rattle.laws.proofs.Lists.{cut}
+use Rattle.laws.proofs.Lists.{cut, gets, bytewise}
 use Rattle.layout.proofs.PackedBack.{length-packed, sized-in, repacked}
-use Rattle.block.proofs.Sealing.{unused, two-bytes, length-body, check-body}
+use Rattle.block.proofs.Sealing.{unused, length-body, check-body}
 
 pub same-eq : (x y : List ℕ) → sameBytes x y ≡ true → x ≡ y
 unfolding sameBytes
@@ -41,10 +41,6 @@ same-refl (x ∷ xs) = rw (eq-eqb x x refl) (same-refl xs)
 
 -- A block is tidy ----------------------------------------------------------------------------------------------------------
 
-flag-low : (t : Bool) → leb (flag t) 1 ≡ true
-flag-low true = refl
-flag-low false = refl
-
 kind-low : (p : Pending) → kindGood (kindOf p) (codeOf p) (heldOf p) ≡ true
 unfolding kindGood
 kind-low Nothing = refl
@@ -62,6 +58,9 @@ module _ (c : Condition) (w : List ℕ) where
       && allUpTo 0 (take 3 (drop 21 (packedOf c ++ w))) && true) ≡ true
   unfolding packedOf headOf allUpTo
   heads = rw (flag-low (c .scrolling), flag-low (c .shown), flag-low (c .euro), flag-low (c .flickerless), kind-low (c .pending))
+    where
+      flag-low : (t : Bool) → leb (flag t) 1 ≡ true
+      flag-low t = le-leb (flag t) 1 (flag-most t)
 
 ended-tidy : (c : Condition) (e : List ℕ) → Sized c → tidy (packedOf c ++ (replicate 310 0 ++ e)) ≡ true
 unfolding tidy allUpTo
@@ -77,23 +76,6 @@ block-tidy : (c : Condition) → Sized c → tidy (blockOf c) ≡ true
 block-tidy c z = rw (block-parts c) (ended-tidy c _ z)
 
 -- A tidy block is the block of what stands in it ---------------------------------------------------------------------------
-
--- n bytes from `at` on, one by one
-abbrev gets : ℕ → ℕ → List ℕ → List ℕ
-gets zero at l = []
-gets (suc n) at l = getD l at 0 ∷ gets n (suc at) l
-
-opened : (n at : ℕ) (l : List ℕ) → at + n ≤ length l → drop at l ≡ gets n at l ++ drop (at + n) l
-opened zero at l h = rw add-zero
-opened (suc n) at l h =
-    let lt : at < length l = omega arith in
-    let e : suc at + n ≡ at + suc n = omega arith in
-    drop-cons l at 0 lt ∙ ap (λ (r : List ℕ). getD l at 0 ∷ r) (opened n (suc at) l (omega arith) ∙ rw e)
-
-flag-fits : (x : ℕ) → leb x 1 ≡ true → flag (eqb x 1) ≡ x
-flag-fits zero e = refl
-flag-fits (suc zero) e = refl
-flag-fits (suc (suc x)) e = absurd (omega (arith, leb-true (suc (suc x)) 1 e))
 
 -- what is half received, back from its three bytes
 record Back (k x n : ℕ) : Type 0 where
@@ -181,7 +163,7 @@ intact-parts b e =
 three-zeros : (b : List ℕ) → length b ≡ 512 → allUpTo 0 (take 3 (drop 21 b)) ≡ true → gets 3 21 b ≡ 0 ∷ 0 ∷ 0 ∷ []
 three-zeros b h e =
     let t : take 3 (drop 21 b) ≡ gets 3 21 b =
-    ap (take 3) (opened 3 21 b (omega arith)) ∙ take-at (gets 3 21 b) (drop 24 b) 3 refl in
+    ap (take 3) (bytewise 3 21 b (omega arith)) ∙ take-at (gets 3 21 b) (drop 24 b) 3 refl in
     sym t ∙ unused 3 21 b (omega arith) e
 
 held-at : (b : List ℕ) (i : ℕ) → i < 4 → getD (take 4 (drop 16 b)) i 0 ≡ getD b (16 + i) 0
@@ -227,12 +209,12 @@ body-back b h m t =
     let e : drop 200 b ≡ replicate 310 0 ++ drop 510 b =
     cut 200 310 b ∙ ap (λ (l : List ℕ). l ++ drop 510 b) (unused 310 200 b (omega arith) (t .rest)) in
     append-assoc p (replicate 310 0) (drop 510 b) ∙ ap (λ (l : List ℕ). p ++ l) (sym e) ∙ repacked b
-    ∙ ap (λ (l : List ℕ). l ++ drop 24 b) (head-back b h m t) ∙ sym (opened 24 0 b (omega arith))
+    ∙ ap (λ (l : List ℕ). l ++ drop 24 b) (head-back b h m t) ∙ sym (bytewise 24 0 b (omega arith))
 
 end-back : (b : List ℕ) → length b ≡ 512 → Intact b → drop 510 b ≡ checkOf b % 256 ∷ checkOf b / 256 ∷ []
 end-back b h m =
     let le : length b ≤ 512 = omega arith in
-    two-bytes b (omega arith) ∙ rw (m .low, m .high, drop-of-length-le b le)
+    bytewise 2 510 b (omega arith) ∙ rw (m .low, m .high, drop-of-length-le b le)
 
 tidy-back : (b : List ℕ) → length b ≡ 512 → intact b ≡ true → tidy b ≡ true → blockOf (conditionIn b) ≡ b
 unfolding blockOf sealOf

@@ -1,22 +1,33 @@
 -- Well-formedness by its parts.
-use mathlib.Core.Path.{_≡_, _∙_}
+use mathlib.Core.Path.{_≡_, refl, _∙_}
 use mathlib.Core.Bool.{true, _&&_}
-use mathlib.Core.List.{List, _∷_, _++_}
-use Prim.Native.Nat.{ℕ, _<_, _≤_, _+_}
-use native.Mathlib.Omega.{arith}
+use mathlib.Core.List.{List}
+use Prim.Native.Nat.{ℕ, _<_, _≤_}
 use lib.Dec.{leb, ltb, eqb}
-use lib.ListN.{set, take, drop, length, length-append, length-take, length-drop, length-set, length-replicate}
+use lib.ListN.{set, length, length-set}
 use borrow.Author.Tests.{leb-true, ltb-true, le-leb, lt-ltb}
-use Rattle.laws.proofs.Tests.{both, by-test}
-use Rattle.row.specs.Row.{lineStart, scrolled, shifted}
+use Rattle.laws.proofs.Tests.{clash, both, by-test}
+use Rattle.row.proofs.Laws.{line-start-20, scrolled-40, shifted-40}
 use Rattle.users.proofs.Places.{define-96}
 use Rattle.condition.specs.declared.Condition.{Condition}
-use Rattle.condition.specs.Condition.{column, allUpTo, usersGood, pendingGood, numbersGood, scrollGood, escapeGood}
+use Rattle.condition.specs.declared.Pending.{Pending}
+use Rattle.condition.specs.declared.Pending.the-variants.{Nothing, Escape, Position, Luminance, Speed, UserCode, UserData}
+use Rattle.condition.specs.Condition.{idle, column, allUpTo, usersGood, pendingGood, numbersGood, scrollGood, escapeGood}
 use Rattle.condition.specs.Condition.{wellFormed, powerUp}
 use Rattle.condition.specs.Set.{withCell}
 use Rattle.condition.specs.Bytes.{scrollOf, leftOf, rightOf, downOf, returnOf, clearOf, pushOf, writeOf, positionOf}
 use Rattle.condition.specs.Bytes.{dataOf, stepOf, runOf}
 use Rattle.condition.proofs.Each.{Commands, step-by, run-by}
+
+-- no command is half received
+pub idle-is : (p : Pending) → idle p ≡ true → p ≡ Nothing
+idle-is Nothing e = refl
+idle-is Escape e = clash e refl
+idle-is Position e = clash e refl
+idle-is Luminance e = clash e refl
+idle-is Speed e = clash e refl
+idle-is UserCode e = clash e refl
+idle-is (UserData code n) e = clash e refl
 
 -- the parts of well-formedness
 pub record Good (c : Condition) : Type 0 where
@@ -93,17 +104,6 @@ pub record Sized (c : Condition) : Type 0 where
   pub users-96 : length (c .users .bytes) ≡ 96
   pub held-4 : length (c .held) ≡ 4
 
-pub scrolled-40 : (v : ℕ) (a : List ℕ) → length a ≡ 40 → length (scrolled v a) ≡ 40
-unfolding scrolled
-scrolled-40 v a h = simp (length-append, length-drop, length-replicate) (omega arith)
-
-pub shifted-40 : (at v : ℕ) (a : List ℕ) → length a ≡ 40 → length (shifted (lineStart at) v a) ≡ 40
-unfolding shifted lineStart
-shifted-40 at v a h =
-    by-test (λ (start : ℕ). length (take start a ++ take 19 (drop (start + 1) a) ++ v ∷ drop (start + 20) a) ≡ 40) (ltb at 20)
-    (λ _. simp (length-append, length-take, length-drop) (omega arith))
-    (λ _. simp (length-append, length-take, length-drop) (omega arith))
-
 scroll-sized : (c : Condition) → Sized c → Sized (scrollOf c)
 unfolding scrollOf
 scroll-sized c s =
@@ -136,9 +136,10 @@ push-sized : (c : Condition) (b : ℕ) → Sized c → Sized (pushOf c b)
 unfolding pushOf
 push-sized c b s =
     by-test Sized (c .scrolling)
-    (λ _. record {
-      codes-40 = shifted-40 (c .cursor) b (c .codes) (s .codes-40);
-      fonts-40 = shifted-40 (c .cursor) (c .font) (c .fonts) (s .fonts-40);
+    (λ _. let l = line-start-20 (c .cursor) in
+    record {
+      codes-40 = shifted-40 _ b (c .codes) l (s .codes-40);
+      fonts-40 = shifted-40 _ (c .font) (c .fonts) l (s .fonts-40);
       users-96 = s .users-96;
       held-4 = s .held-4;
     })

@@ -16,7 +16,7 @@ use Rattle.condition.specs.declared.Condition.{Condition}
 use Rattle.condition.specs.declared.Pending.{Pending}
 use Rattle.condition.specs.declared.Pending.the-variants.{Nothing, Escape, UserData}
 use Rattle.condition.specs.Condition.{column, idle, heldOf, allUpTo, absent, usersGood, pendingGood, numbersGood}
-use Rattle.condition.specs.Condition.{scrollGood, escapeGood, wellFormed, powerUp}
+use Rattle.condition.specs.Condition.{scrollGood, escapeGood, wellFormed, powerUp, powerUpAnswer}
 use Rattle.condition.specs.Set.{withCells, withCell, withCursor, withMode, withScrolling, withShown, withFont, withEuro}
 use Rattle.condition.specs.Set.{withLuminance, withSpeed, withFlickerless, withPending, goTo}
 use Rattle.condition.specs.Bytes.{scrollOf, leftOf, rightOf, downOf, returnOf, clearOf, pushOf, writeOf, isChar}
@@ -33,6 +33,15 @@ unfolding wellFormed powerUp numbersGood scrollGood allUpTo usersGood pendingGoo
 power-up-good zero h = refl
 power-up-good (suc zero) h = refl
 power-up-good (suc (suc f)) h = absurd (omega arith)
+
+-- so it is given for a font link of 0 or 1, and refused for any other
+pub powered : (f : ℕ) → leb f 1 ≡ true → powerUpAnswer f ≡ record { refusal = 0; condition = powerUp f }
+unfolding powerUpAnswer
+powered f h = rw h
+
+pub unpowered : (f : ℕ) → leb f 1 ≡ false → powerUpAnswer f ≡ record { refusal = 3; condition = powerUp 0 }
+unfolding powerUpAnswer
+unpowered f h = rw h
 
 -- Fonts that are moved stay 0 or 1 -----------------------------------------------------------------------------------------
 

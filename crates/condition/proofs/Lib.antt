@@ -1,4 +1,5 @@
-pub mod Places
+pub mod Flags
+pub mod Characters
 pub mod Rows
 pub mod Each
 pub mod Ranges

@@ -1,6 +1,6 @@
 -- A run in pieces and byte by byte, and how much a run can add to the tally.
 use mathlib.Core.Path.{_≡_, refl, sym}
-use mathlib.Core.Bool.{Bool, true, false, _||_}
+use mathlib.Core.Bool.{_||_}
 use mathlib.Core.List.{List, [], _∷_, _++_}
 use Prim.Native.Nat.{ℕ, _<_, _≤_, _+_, _*_}
 use native.Mathlib.Omega.{arith}
@@ -13,9 +13,11 @@ use Rattle.laws.proofs.Tests.{by-test}
 use Rattle.condition.specs.declared.Condition.{Condition}
 use Rattle.condition.specs.declared.Pending.{Pending}
 use Rattle.condition.specs.declared.Pending.the-variants.{Nothing, Escape, Position, Luminance, Speed, UserCode, UserData}
+use Rattle.condition.specs.Condition.{flag}
 use Rattle.condition.specs.Bytes.{isChar, stepOf, runOf}
 use Rattle.condition.specs.Busy.{rightScrolls, downScrolls, lineShifts, writeBusy, controlBusy, escapeBusy, figureAt}
-use Rattle.condition.specs.Busy.{figureOf, busyOf, one, flickerlessOf}
+use Rattle.condition.specs.Busy.{figureOf, busyOf, flickerlessOf}
+use Rattle.condition.proofs.Flags.{flag-most}
 
 -- One run or several with the same bytes in turn end alike ----------------------------------------------------------------
 
@@ -46,7 +48,7 @@ module _ (c : Condition) (bs : List ℕ) (i : ℕ) (h : i < length bs) where
   unfolding busyOf
   busy-turn = rw (add-one, drop-cons bs i 0 h)
 
-  pub flickerless-turn : one (c .flickerless) + flickerlessOf (stepOf c (getD bs i 0)) (drop (i + 1) bs)
+  pub flickerless-turn : flag (c .flickerless) + flickerlessOf (stepOf c (getD bs i 0)) (drop (i + 1) bs)
       ≡ flickerlessOf c (drop i bs)
   unfolding flickerlessOf
   flickerless-turn = rw (add-one, drop-cons bs i 0 h)
@@ -93,10 +95,6 @@ figure-most c b = go (c .pending)
     go UserCode = omega arith
     go (UserData code n) = by-test Most (ltb n 4) (λ _. omega arith) (λ _. omega arith)
 
-pub one-most : (t : Bool) → one t ≤ 1
-one-most true = omega arith
-one-most false = omega arith
-
 pub busy-most : (c : Condition) (bs : List ℕ) → busyOf c bs ≤ 65 * length bs
 unfolding busyOf
 busy-most c [] = omega arith
@@ -105,4 +103,4 @@ busy-most c (b ∷ bs) = omega (arith, figure-most c b, busy-most (stepOf c b) b
 pub flickerless-most : (c : Condition) (bs : List ℕ) → flickerlessOf c bs ≤ length bs
 unfolding flickerlessOf
 flickerless-most c [] = omega arith
-flickerless-most c (b ∷ bs) = omega (arith, one-most (c .flickerless), flickerless-most (stepOf c b) bs)
+flickerless-most c (b ∷ bs) = omega (arith, flag-most (c .flickerless), flickerless-most (stepOf c b) bs)

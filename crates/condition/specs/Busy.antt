@@ -1,12 +1,12 @@
 -- Busy time, in microseconds (document 01, Busy time and the tally; source 000, section 6.1).
 use Prim.Native.Nat.{ℕ, _+_}
 use mathlib.Core.List.{List, [], _∷_}
-use mathlib.Core.Bool.{Bool, true, false, cond, _&&_, _||_}
+use mathlib.Core.Bool.{Bool, cond, _&&_, _||_}
 use lib.Dec.{eqb, ltb, leb}
 use Rattle.condition.specs.declared.Condition.{Condition}
 use Rattle.condition.specs.declared.Pending.{Pending}
 use Rattle.condition.specs.declared.Pending.the-variants.{Nothing, Escape, Position, Luminance, Speed, UserCode, UserData}
-use Rattle.condition.specs.Condition.{column}
+use Rattle.condition.specs.Condition.{column, flag}
 use Rattle.condition.specs.Bytes.{isChar, stepOf}
 
 -- the display scrolls when the cursor goes right: from 39 in mode 2
@@ -61,11 +61,7 @@ unfoldable pub busyOf : Condition → List ℕ → ℕ
 busyOf c [] = 0
 busyOf c (b ∷ bs) = figureOf c b + busyOf (stepOf c b) bs
 
-abbrev pub one : Bool → ℕ
-one true = 1
-one false = 0
-
 -- bytes received while flickerless was already on
 unfoldable pub flickerlessOf : Condition → List ℕ → ℕ
 flickerlessOf c [] = 0
-flickerlessOf c (b ∷ bs) = one (c .flickerless) + flickerlessOf (stepOf c b) bs
+flickerlessOf c (b ∷ bs) = flag (c .flickerless) + flickerlessOf (stepOf c b) bs

@@ -184,8 +184,11 @@ fn scroll_good(c: Condition) -> bool
 }
 
 impl Condition {
-    // The cells, the columns of a line and the last of them, and the data bytes that may be held of a user character.
+    // The cells and the last place, the columns of a line and the last of them, and the data bytes that may be held of a user
+    // character.
     pub const CELLS: usize = 40;
+
+    pub const LAST_PLACE: u8 = 39;
 
     pub const COLUMNS: u8 = 20;
 

@@ -1,13 +1,12 @@
 -- Each branch of a command, from what its tests tell.
-use Prim.Native.Nat.{ℕ, _+_, _%_, _≤_, _<_}
+use Prim.Native.Nat.{ℕ, _+_, _%_, _<_}
 use mathlib.Core.Path.{_≡_, sym, _∙_}
 use mathlib.Core.List.{List}
-use mathlib.Core.Bool.{Bool, true, false, or-true}
+use mathlib.Core.Bool.{Bool, true, false}
 use native.Mathlib.Omega.{arith}
 use lib.Dec.{ltb}
 use lib.ListN.{getD}
-use borrow.Author.Tests.{eq-eqb, ne-eqb, le-leb, lt-leb}
-use Rattle.users.specs.Users.{isUser}
+use borrow.Author.Tests.{eq-eqb, ne-eqb}
 use Rattle.condition.specs.declared.Condition.{Condition}
 use Rattle.condition.specs.declared.Pending.{Pending}
 use Rattle.condition.specs.declared.Pending.the-variants.{Nothing, UserData}
@@ -15,9 +14,9 @@ use Rattle.condition.specs.Set.{withCursor, withCell}
 use Rattle.condition.specs.Bytes.{scrollOf, rightOf, pushOf, writeOf, isChar, controlOf, dataOf, stepAt, stepOf}
 use Rattle.condition.specs.Busy.{writeBusy, controlBusy, figureAt}
 use Rattle.layout.specs.Layout.{conditionIn, pendingOf}
-use Rattle.layout.proofs.PackedBack.{above}
+use Rattle.layout.proofs.PackedBack.{kind-above-5}
 use Rattle.inplace.specs.InPlace.{Stepped}
-use Rattle.inplace.proofs.Tests.{inner-column, edge-column}
+use Rattle.inplace.proofs.Columns.{inner-column, edge-column}
 use Rattle.inplace.proofs.InPlace.{cursor-at, mode-at, pending-at}
 
 -- 09h, with the column's test r
@@ -70,27 +69,13 @@ half-step s b p e = rw (pending-at s, e)
 -- a kind that is not 0 and none of 1 to 5 awaits user data
 pub awaits-data : (k code n : ℕ) → 0 < k → (k ≡ 1 → ⊥) → (k ≡ 2 → ⊥) → (k ≡ 3 → ⊥) → (k ≡ 4 → ⊥) → (k ≡ 5 → ⊥)
     → pendingOf k code n ≡ UserData code n
-awaits-data k code n h h1 h2 h3 h4 h5 = sym (above k code n (omega arith))
+awaits-data k code n h h1 h2 h3 h4 h5 = sym (kind-above-5 k code n (omega arith))
 
 -- a byte of user data
 pub data-step : (s : List ℕ) (b : ℕ) → pendingOf (getD s 13 0) (getD s 14 0) (getD s 15 0) ≡ UserData (getD s 14 0) (getD s 15 0)
     → dataOf (conditionIn s) (getD s 14 0) (getD s 15 0) b ≡ stepOf (conditionIn s) b
 unfolding stepAt
 data-step s b e = half-step s b _ e
-
--- Which bytes are characters: 20h-FFh, and a user code
-module _ (c : Condition) (b : ℕ) where
-  pub plain-char : 0x20 ≤ b → isChar c b ≡ true
-  unfolding isChar
-  plain-char h = rw (le-leb 0x20 b h) (or-true (isUser (c .users) b))
-
-  pub user-char : (r : Bool) → r ≡ isUser (c .users) b → r ≡ true → isChar c b ≡ true
-  unfolding isChar
-  user-char r h e = rw (← h, e)
-
-  pub no-char : (r : Bool) → r ≡ isUser (c .users) b → r ≡ false → b < 0x20 → isChar c b ≡ false
-  unfolding isChar
-  no-char r h e l = rw (← h, e, lt-leb 0x20 b l)
 
 -- A byte where nothing is half received
 module _ (s : List ℕ) (b : ℕ) (z : getD s 13 0 ≡ 0) (k : Condition) (r : ℕ) where

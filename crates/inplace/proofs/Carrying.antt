@@ -69,7 +69,3 @@ accepts c bs e =
     let long = ltb 32768 (length bs) in
     let p = passed (not (wellFormed c)) 2 (cond long 4 0) e in
     (not-false (wellFormed c) (p .0), omega (arith, ltb-false 32768 (length bs) (passed long 3 0 (p .1) .0)))
-
--- two answers that the contract allows are the same
-pub one-carrying : (c : Condition) (bs : List ℕ) (r s : After) → r ≡ afterOf c bs → s ≡ afterOf c bs → r ≡ s
-one-carrying c bs r s e f = e ∙ sym f

@@ -1,6 +1,6 @@
 -- What a store to a byte, or to a part, makes of the condition that stands there.
 use Prim.Native.Nat.{ℕ, zero, suc, _+_, _≤_, _<_}
-use mathlib.Core.Path.{_≡_, refl, ap, sym, _∙_}
+use mathlib.Core.Path.{_≡_, refl, ap, sym, _∙_, subst}
 use mathlib.Core.List.{List, [], _∷_, _++_, append-assoc}
 use native.Mathlib.Omega.{arith}
 use lib.Dec.{eqb}
@@ -8,7 +8,7 @@ use borrow.Author.Tests.{eq-eqb}
 use lib.ListN.{length, getD, take, drop, set, replicate}
 use lib.Seq.{take-at, drop-at}
 use Rattle.row.specs.Row.{onPicture, laid}
-use Rattle.row.proofs.Laws.{pictured, filled}
+use Rattle.row.proofs.Laws.{on-picture, filled}
 use Rattle.users.specs.Users.{usersIn, defineIn}
 use Rattle.condition.specs.declared.Condition.{Condition}
 use Rattle.condition.specs.Condition.{powerUp}
@@ -16,7 +16,7 @@ use Rattle.condition.specs.Set.{withCursor, withScrolling, withShown, withFont,
 use Rattle.condition.specs.Set.{withFlickerless, withUsers, withPending, withCells, goTo}
 use Rattle.condition.specs.Bytes.{modeOf, internationalOf}
 use Rattle.layout.specs.Layout.{conditionIn, pendingOf}
-use Rattle.laws.proofs.Lists.{part-length}
+use Rattle.laws.proofs.Lists.{part-length, gets, bytewise}
 use Rattle.layout.proofs.Parts.{cut-parts, in-codes, past-codes, past-fonts, up-to-fonts, in-fonts, in-users}
 use Rattle.inplace.specs.InPlace.{blankOf, heldIn, releasedIn, resetIn, withUserBytes, definedIn}
 
@@ -184,29 +184,23 @@ users-at s = refl
 abbrev pub spliced : ℕ → ℕ → List ℕ → List ℕ → List ℕ
 spliced a n s x = take a s ++ (x ++ drop n (drop a s))
 
--- a property of every list of n elements and a block's parts, by these
-EachPart : ℕ → (List ℕ → Type 0) → Type 0
-EachPart zero P = (p q w z : List ℕ) → length p ≡ 40 → length q ≡ 40 → length w ≡ 96 → P (p ++ (q ++ (w ++ z)))
-EachPart (suc n) P = (a : ℕ) → EachPart n (λ (l : List ℕ). P (a ∷ l))
-
-each-part : (n : ℕ) (P : List ℕ → Type 0) → EachPart n P → (s : List ℕ) → n + 176 ≤ length s → P s
-unfolding EachPart
-each-part zero P f r h =
-    let cut : take 40 r ++ (take 40 (drop 40 r) ++ (take 96 (drop 80 r) ++ drop 176 r)) ≡ r = sym (cut-parts 0 r) in
-    let codes : length (take 40 r) ≡ 40 = part-length 0 40 r (omega arith) in
-    let fonts = part-length 40 40 r (omega arith) in
-    let users = part-length 80 96 r (omega arith) in
-    rw cut at (f (take 40 r) (take 40 (drop 40 r)) (take 96 (drop 80 r)) (drop 176 r) codes fonts users)
-each-part (suc n) P f [] h = let z : ⊥ = omega arith in absurd z
-each-part (suc n) P f (a ∷ s) h = each-part n (λ (l : List ℕ). P (a ∷ l)) (f a) s (omega arith)
+-- a property of a block's bytes, by its head and its parts
+each-part : (P : List ℕ → Type 0) (s : List ℕ) → 200 ≤ length s
+    → ((p q w z : List ℕ) → length p ≡ 40 → length q ≡ 40 → length w ≡ 96 → P (gets 24 0 s ++ (p ++ (q ++ (w ++ z))))) → P s
+each-part P s h f =
+    let whole : gets 24 0 s ++ (take 40 (drop 24 s) ++ (take 40 (drop 64 s) ++ (take 96 (drop 104 s) ++ drop 200 s))) ≡ s =
+    sym (bytewise 24 0 s (omega arith) ∙ ap (λ (l : List ℕ). gets 24 0 s ++ l) (cut-parts 24 s)) in
+    subst P whole
+    (f (take 40 (drop 24 s)) (take 40 (drop 64 s)) (take 96 (drop 104 s)) (drop 200 s)
+    (part-length 24 40 s (omega arith)) (part-length 64 40 s (omega arith)) (part-length 104 96 s (omega arith)))
 
 -- the cells, codes and fonts, replaced
 cells-in : (s x y : List ℕ) → 200 ≤ length s → length x ≡ 40 → length y ≡ 40
     → conditionIn (spliced 64 40 (spliced 24 40 s x) y) ≡ withCells (conditionIn s) x y
-unfolding conditionIn EachPart
+unfolding conditionIn
 cells-in s x y h hx hy =
-    each-part 24 (λ (s : List ℕ). conditionIn (spliced 64 40 (spliced 24 40 s x) y) ≡ withCells (conditionIn s) x y)
-    (λ a0 a1 a2 a3 a4 a5 a6 a7 a8 a9 a10 a11 a12 a13 a14 a15 a16 a17 a18 a19 a20 a21 a22 a23 p q w z hp hq hw. rw (
+    each-part (λ (s : List ℕ). conditionIn (spliced 64 40 (spliced 24 40 s x) y) ≡ withCells (conditionIn s) x y) s h
+    (λ p q w z hp hq hw. rw (
       past-codes p q w z hp hq hw,
       in-codes x q w z hx hq hw,
       past-codes x q w z hx hq hw,
@@ -216,21 +210,18 @@ cells-in s x y h hx hy =
       in-users x y w z hx hy hw,
       in-users p q w z hp hq hw,
     ))
-    s (omega arith)
 
 fonts-kept : (s x : List ℕ) → 200 ≤ length s → length x ≡ 40 → take 40 (drop 64 (spliced 24 40 s x)) ≡ take 40 (drop 64 s)
-unfolding EachPart
 fonts-kept s x h hx =
-    each-part 24 (λ (s : List ℕ). take 40 (drop 64 (spliced 24 40 s x)) ≡ take 40 (drop 64 s))
-    (λ a0 a1 a2 a3 a4 a5 a6 a7 a8 a9 a10 a11 a12 a13 a14 a15 a16 a17 a18 a19 a20 a21 a22 a23 p q w z hp hq hw.
+    each-part (λ (s : List ℕ). take 40 (drop 64 (spliced 24 40 s x)) ≡ take 40 (drop 64 s)) s h
+    (λ p q w z hp hq hw.
     rw (past-codes p q w z hp hq hw, in-fonts x q w z hx hq hw) (sym (take-at q (w ++ z) 40 hq)))
-    s (omega arith)
 
 users-in : (s x : List ℕ) → 200 ≤ length s → length x ≡ 96 → conditionIn (spliced 104 96 s x) ≡ withUserBytes (conditionIn s) x
-unfolding conditionIn EachPart
+unfolding conditionIn
 users-in s x h hx =
-    each-part 24 (λ (s : List ℕ). conditionIn (spliced 104 96 s x) ≡ withUserBytes (conditionIn s) x)
-    (λ a0 a1 a2 a3 a4 a5 a6 a7 a8 a9 a10 a11 a12 a13 a14 a15 a16 a17 a18 a19 a20 a21 a22 a23 p q w z hp hq hw. rw (
+    each-part (λ (s : List ℕ). conditionIn (spliced 104 96 s x) ≡ withUserBytes (conditionIn s) x) s h
+    (λ p q w z hp hq hw. rw (
       up-to-fonts p q w z hp hq hw,
       past-fonts p q w z hp hq hw,
       drop-at w z 96 hw,
@@ -241,7 +232,6 @@ users-in s x h hx =
       in-codes p q w z hp hq hw,
       in-fonts p q w z hp hq hw,
     ))
-    s (omega arith)
 
 -- codes and fonts, each changed by its own rule
 pub cells-by : (f g : List ℕ → List ℕ) (s x y : List ℕ) → 200 ≤ length s → length x ≡ 40 → length y ≡ 40
@@ -260,8 +250,8 @@ pub pictures-by : (f g : List ℕ → List ℕ) (s x y : List ℕ) → 200 ≤ l
     ≡ withCells (conditionIn s) (f (conditionIn s .codes)) (g (conditionIn s .fonts))
 pictures-by f g s x y h hx hy p q =
     cells-by f g s x y h hx hy
-    (p ∙ pictured f _ (part-length 24 40 s (omega arith)))
-    (q ∙ rw (fonts-kept s x h hx) (pictured g _ (part-length 64 40 s (omega arith))))
+    (p ∙ on-picture f _ (part-length 24 40 s (omega arith)))
+    (q ∙ rw (fonts-kept s x h hx) (on-picture g _ (part-length 64 40 s (omega arith))))
 
 -- both cleared
 pub blank-by : (s x y : List ℕ) (f : ℕ) → 200 ≤ length s → length x ≡ 40 → length y ≡ 40

@@ -1,4 +1,4 @@
-pub mod Tests
+pub mod Columns
 pub mod InPlace
 pub mod Branches
 pub mod Running

@@ -7,13 +7,14 @@ use native.Mathlib.Omega.{arith}
 use lib.Dec.{eqb}
 use lib.ListN.{length, getD, drop}
 use Rattle.condition.specs.declared.Condition.{Condition}
-use Rattle.condition.specs.Condition.{wellFormed}
+use Rattle.condition.specs.Condition.{flag, wellFormed}
 use Rattle.condition.specs.Bytes.{runOf}
-use Rattle.condition.specs.Busy.{busyOf, one, flickerlessOf}
+use Rattle.condition.specs.Busy.{busyOf, flickerlessOf}
 use Rattle.condition.proofs.Good.{good}
 use Rattle.condition.proofs.Kept.{step-kept}
 use Rattle.condition.proofs.Pieces.{run-turn, busy-turn, flickerless-turn, run-ended, busy-ended, flickerless-ended}
-use Rattle.condition.proofs.Pieces.{figure-most, one-most}
+use Rattle.condition.proofs.Pieces.{figure-most}
+use Rattle.condition.proofs.Flags.{flag-most}
 use Rattle.layout.specs.Layout.{conditionIn}
 use Rattle.layout.proofs.PackedBack.{sized-in}
 use Rattle.inplace.specs.InPlace.{Stepped, Carried}
@@ -24,7 +25,7 @@ step-most c b k r s = rw (s .takes) (figure-most c b)
 
 -- after i bytes of bs, from the condition c: what stands in s, and what is spent
 pub record Going (c : Condition) (bs : List ℕ) (s : List ℕ) (busy flickerless i : ℕ) : Type 0 where
-  pub passed : i ≤ length bs
+  pub upto : i ≤ length bs
   pub room : 200 ≤ length s
   pub formed : wellFormed (conditionIn s) ≡ true
   pub leaves : runOf (conditionIn s) (drop i bs) ≡ runOf c bs
@@ -36,7 +37,7 @@ pub record Going (c : Condition) (bs : List ℕ) (s : List ℕ) (busy flickerles
 pub going-starts : (s bs : List ℕ) → 200 ≤ length s → wellFormed (conditionIn s) ≡ true → Going (conditionIn s) bs s 0 0 0
 going-starts s bs h w =
     record {
-      passed = omega arith;
+      upto = omega arith;
       room = h;
       formed = w;
       leaves = refl;
@@ -51,14 +52,14 @@ module _ (c : Condition) (bs s : List ℕ) (busy flickerless i : ℕ) (g : Going
   going-place = rw cursor-at at (good (conditionIn s) (g .formed) .cursor-40)
 
   pub going-turns : (after : List ℕ) (r f : ℕ) → i < length bs → getD bs i 0 < 256 → length after ≡ length s
-      → Stepped (conditionIn s) (getD bs i 0) (conditionIn after) r → f ≡ one (eqb (getD s 12 0) 1)
+      → Stepped (conditionIn s) (getD bs i 0) (conditionIn after) r → f ≡ flag (eqb (getD s 12 0) 1)
       → Going c bs after (busy + r) (flickerless + f) (i + 1)
   going-turns after r f h b l st e =
       let k = conditionIn s in
       let m : r ≤ 65 = step-most k (getD bs i 0) (conditionIn after) r st in
-      let n : f ≤ 1 = rw e (one-most (eqb (getD s 12 0) 1)) in
+      let n : f ≤ 1 = rw e (flag-most (eqb (getD s 12 0) 1)) in
       record {
-        passed = omega arith;
+        upto = omega arith;
         room = omega (arith, g .room);
         formed = rw (st .leaves) (step-kept k (getD bs i 0) (sized-in s (g .room)) b (g .formed));
         leaves = rw (st .leaves) (run-turn k bs i h ∙ g .leaves);

@@ -18,7 +18,7 @@ fn right_scrolls(s: &[u8]) -> bool
     ensures { λ r. ⌜ r ≡ rightScrolls (conditionIn (now (s .entry))) ⌝ }
 {
     if s[MODE] == 2 {
-        return s[CURSOR] == 39;
+        return s[CURSOR] == Condition::LAST_PLACE;
     }
     false
 }

@@ -6,11 +6,11 @@ ghost use Rattle.condition.specs.Set.{withCell};
 ghost use Rattle.condition.specs.Bytes.{scrollOf, clearOf};
 ghost use Rattle.layout.specs.Layout.{conditionIn};
 ghost use Rattle.inplace.specs.InPlace.{shiftOf, blankOf};
-use crate::fields::set_scrolling;
 use layout::CODES;
 use layout::CURSOR;
 use layout::FONT;
 use layout::FONTS;
+use layout::SCROLLING;
 use layout::USERS;
 
 pub(crate) fn put(s: &mut [u8], at: u8, b: u8)
@@ -58,5 +58,5 @@ pub(crate) fn clear(s: &mut [u8])
 {
     let font = s[FONT];
     blank(s, font);
-    set_scrolling(s, 0);
+    s[SCROLLING] = 0;
 }

@@ -42,10 +42,10 @@ pub(crate) fn below_19(x: u8) -> bool
     requires { ⌜ x < 40 ⌝ }
     ensures { λ r. ⌜ r ≡ ltb (x % 20) 19 ⌝ }
 {
-    if x == 19 {
+    if x == Condition::LAST_COLUMN {
         return false;
     }
-    x < 39
+    x < Condition::LAST_PLACE
 }
 
 // 09h.
@@ -62,8 +62,8 @@ fn right(s: &mut [u8])
     if m == 3 {
         return;
     }
-    if x == 19 {
-        move_to(s, 20);
+    if x == Condition::LAST_COLUMN {
+        move_to(s, Condition::COLUMNS);
         return;
     }
     if m == 1 {
@@ -71,7 +71,7 @@ fn right(s: &mut [u8])
         return;
     }
     scroll(s);
-    move_to(s, 20);
+    move_to(s, Condition::COLUMNS);
 }
 
 // 0Ah.

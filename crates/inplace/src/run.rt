@@ -4,9 +4,9 @@ ghost use mathlib.Core.Bool.{true};
 ghost use Prim.Native.Nat.{_≤_, _<_};
 ghost use lib.ListN.{length, getD};
 ghost use lib.Dec.{eqb};
-ghost use Rattle.condition.specs.Condition.{wellFormed};
+ghost use Rattle.condition.specs.Condition.{flag, wellFormed};
 ghost use Rattle.condition.specs.Bytes.{writeOf};
-ghost use Rattle.condition.specs.Busy.{writeBusy, one};
+ghost use Rattle.condition.specs.Busy.{writeBusy};
 ghost use Rattle.layout.specs.Layout.{conditionIn};
 ghost use Rattle.inplace.specs.InPlace.{Stepped, Carried};
 use crate::busy::continued_busy;
@@ -53,7 +53,7 @@ fn step(s: &mut [u8], b: u8) -> u8
 }
 
 fn one_if(on: u8) -> u32
-    ensures { λ r. ⌜ (r ≡ one (eqb on 1)) × (r ≤ 1) ⌝ }
+    ensures { λ r. ⌜ (r ≡ flag (eqb on 1)) × (r ≤ 1) ⌝ }
 {
     if on == 1 { 1 } else { 0 }
 }

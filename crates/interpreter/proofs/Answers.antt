@@ -13,7 +13,7 @@ use Rattle.condition.specs.declared.Condition.{Condition}
 use Rattle.condition.specs.Condition.{wellFormed}
 use Rattle.condition.specs.Bytes.{runOf}
 use Rattle.condition.specs.Busy.{busyOf, flickerlessOf}
-use Rattle.condition.proofs.Good.{Sized}
+use Rattle.condition.proofs.Good.{Sized, run-sized}
 use Rattle.condition.proofs.Kept.{run-kept}
 use Rattle.condition.proofs.Pieces.{run-append, busy-append, flickerless-append, busy-most, flickerless-most}
 use Rattle.interpreter.specs.declared.Tally.{Tally}
@@ -64,6 +64,12 @@ run-or-carry c t bs l = rw l (go (wellFormed c) (ltb 32768 (length bs)) (cond (n
 pub run-unformed : (c : Condition) (t : Tally) (bs : List ℕ) → wellFormed c ≡ false → runAnswer c t bs .refusal ≡ 3
 unfolding runAnswer runRefusal
 run-unformed c t bs w = rw w
+
+-- a run keeps the arrays' lengths
+pub ran-sized : (c : Condition) (t : Tally) (bs : List ℕ) → Sized c → Sized (runAnswer c t bs .condition)
+unfolding runAnswer
+ran-sized c t bs s =
+    by-test (λ (r : Ran). Sized (r .condition)) (eqb (runRefusal c t bs) 0) (λ _. run-sized c bs s) (λ _. s)
 
 module _ (c : Condition) (t : Tally) (bs : List ℕ) (r : Ran) where
   pub above-limit : withinLimit t ≡ false → r ≡ refusedOf 3 c t → RunPromise c t bs r

@@ -1,10 +1,11 @@
--- Parts of lists.
-use mathlib.Core.Path.{_≡_, sym}
-use mathlib.Core.List.{List, _++_}
-use Prim.Native.Nat.{ℕ, _+_, _-_, _≤_}
+-- Parts of lists, and stores one after the other.
+use mathlib.Core.Path.{_≡_, sym, ap, _∙_}
+use mathlib.Core.List.{List, [], _∷_, _++_}
+use Prim.Native.Nat.{ℕ, zero, suc, _+_, _-_, _≤_, _<_}
+use native.Mathlib.Nat.{add-zero}
 use native.Mathlib.Omega.{arith}
-use lib.ListN.{length, take, drop, length-drop, take-append-drop}
-use lib.Seq.{take-all, drop-drop, length-take-le}
+use lib.ListN.{length, getD, take, drop, set, length-drop, take-append-drop}
+use lib.Seq.{sets, take-all, drop-drop, drop-cons, length-take-le}
 
 -- the part of a list from a place on
 pub tail-part : (s : List ℕ) (at : ℕ) → take (length s - at) (drop at s) ≡ drop at s
@@ -17,3 +18,21 @@ part-length at n s h = length-take-le n (drop at s) (simp length-drop (omega ari
 -- a part, and what stands behind it
 pub cut : (at n : ℕ) (s : List ℕ) → drop at s ≡ take n (drop at s) ++ drop (at + n) s
 cut at n s = rw (← drop-drop n at s) (sym (take-append-drop n (drop at s)))
+
+-- n bytes from `at` on, one by one
+abbrev pub gets : ℕ → ℕ → List ℕ → List ℕ
+gets zero at l = []
+gets (suc n) at l = getD l at 0 ∷ gets n (suc at) l
+
+pub bytewise : (n at : ℕ) (l : List ℕ) → at + n ≤ length l → drop at l ≡ gets n at l ++ drop (at + n) l
+bytewise zero at l h = rw add-zero
+bytewise (suc n) at l h =
+    let lt : at < length l = omega arith in
+    let e : suc at + n ≡ at + suc n = omega arith in
+    drop-cons l at 0 lt ∙ ap (λ (r : List ℕ). getD l at 0 ∷ r) (bytewise n (suc at) l (omega arith) ∙ rw e)
+
+-- the stores of a list and those of another behind it
+pub sets-append : (l : List ℕ) (i : ℕ) (xs ys : List ℕ) → sets l i (xs ++ ys) ≡ sets (sets l i xs) (i + length xs) ys
+sets-append l i [] ys = ap (λ (k : ℕ). sets l k ys) (sym (add-zero i))
+sets-append l i (x ∷ xs) ys =
+    sets-append (set l i x) (suc i) xs ys ∙ ap (λ (k : ℕ). sets (sets (set l i x) (suc i) xs) k ys) (omega arith)

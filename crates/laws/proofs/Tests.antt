@@ -1,17 +1,16 @@
 -- Tests: what one tells, alone or joined with another. (`or-true`, `and-false`, `and-not-self` and their like are in
 -- mathlib.Core.Bool; what tests of numbers tell is in borrow.Author.Tests.)
 use mathlib.Core.Path.{_≡_, refl, sym, _∙_, subst}
-use mathlib.Core.Logic.{_⊎_, inl, inr}
 use mathlib.Core.Bool.{Bool, true, false, cond, _&&_, _||_}
 use Prim.Native.Nat.{ℕ, suc}
 use native.Mathlib.Omega.{arith}
 use lib.Dec.{T, eqb}
 use borrow.Author.Tests.{eqb-true, eqb-false}
 
--- a test is true or false
-pub bool : (b : Bool) → (b ≡ true) ⊎ (b ≡ false)
-bool true = inl refl
-bool false = inr refl
+-- a test is true or false: what holds either way holds
+pub split {ℓ} : {P : Type ℓ} (t : Bool) → (t ≡ true → P) → (t ≡ false → P) → P
+split true f g = f refl
+split false f g = g refl
 
 -- and not both
 pub clash : {A : Type 0} {b : Bool} → b ≡ true → b ≡ false → A
@@ -25,6 +24,11 @@ both false b e = (e, clash e refl)
 pub neither : (a b : Bool) → (a || b) ≡ false → (a ≡ false) × (b ≡ false)
 neither true b e = clash refl e
 neither false b e = (refl, e)
+
+-- the second part of an `and` counts only where the first holds
+pub and-same : (t : Bool) {x y : Bool} → (t ≡ true → x ≡ y) → (t && x) ≡ (t && y)
+and-same true f = f refl
+and-same false f = refl
 
 -- a property of either way is one of the choice, with the test known
 pub by-test {ℓ ℓ′} : {A : Type ℓ} (P : A → Type ℓ′) (t : Bool) {a b : A} → (t ≡ true → P a) → (t ≡ false → P b) → P (cond t a b)
@@ -43,8 +47,4 @@ number-by {A} number n ea eb =
 
 -- two numbers are equal or they are not
 pub by-equal : {P : Type 0} (i k : ℕ) → (i ≡ k → P) → ((i ≡ k → ⊥) → P) → P
-by-equal {P} i k f g = go (eqb i k) refl
-  where
-    go : (t : Bool) → eqb i k ≡ t → P
-    go true e = f (eqb-true i k e)
-    go false e = g (eqb-false i k e)
+by-equal i k f g = split (eqb i k) (λ e. f (eqb-true i k e)) (λ e. g (eqb-false i k e))

@@ -1,21 +1,21 @@
 -- A condition packed into bytes, and unpacked again.
-use Prim.Native.Nat.{ℕ, zero, suc, _≤_, _<_}
+use Prim.Native.Nat.{ℕ, _≤_, _<_}
 use mathlib.Core.Path.{_≡_, refl, ap, sym, _∙_}
-use mathlib.Core.Bool.{Bool, true, false}
-use mathlib.Core.List.{List, [], _∷_, _++_, append-assoc, append-nil}
+use mathlib.Core.Bool.{false}
+use mathlib.Core.List.{List, [], _++_, append-assoc, append-nil}
 use native.Mathlib.Omega.{arith}
 use lib.Dec.{eqb}
-use lib.ListN.{length, getD, take, drop, replicate, length-append}
-use lib.Seq.{ext-getD}
+use lib.ListN.{length, getD, take, drop, replicate, length-append, drop-of-length-le}
 use borrow.Author.Tests.{ne-eqb, lt-ltb, le-ltb}
 use Rattle.row.specs.Row.{laid}
 use Rattle.condition.specs.declared.Condition.{Condition}
 use Rattle.condition.specs.declared.Pending.{Pending}
 use Rattle.condition.specs.declared.Pending.the-variants.{Nothing, Escape, Position, Luminance, Speed, UserCode, UserData}
 use Rattle.condition.specs.Condition.{heldOf, powerUp}
-use Rattle.layout.specs.Layout.{flag, kindOf, codeOf, headOf, packedOf, pendingOf, conditionIn, unpackedOf}
+use Rattle.layout.specs.Layout.{kindOf, codeOf, headOf, packedOf, pendingOf, conditionIn, unpackedOf}
+use Rattle.condition.proofs.Flags.{flag-back}
 use Rattle.condition.proofs.Good.{Sized}
-use Rattle.laws.proofs.Lists.{part-length}
+use Rattle.laws.proofs.Lists.{part-length, gets, bytewise}
 use Rattle.layout.proofs.Parts.{copied, cut-parts, in-codes, in-fonts, in-users}
 
 -- bytes that hold a condition, and bytes that are too few
@@ -71,8 +71,8 @@ unpacking s x y w h p l ex ey ew eh ep =
     (rw (copied s 104 96 (omega arith), copied s 16 4 (omega arith)))
 
 -- a kind that is none of 0 to 5
-pub above : (k a n : ℕ) → 5 < k → UserData a n ≡ pendingOf k a n
-above k a n h =
+pub kind-above-5 : (k a n : ℕ) → 5 < k → UserData a n ≡ pendingOf k a n
+kind-above-5 k a n h =
     let other : (i : ℕ) → i ≤ 5 → eqb k i ≡ false = λ i l. ne-eqb k i (λ e. omega arith) in
     rw (other 0 (omega arith), other 1 (omega arith), other 2 (omega arith), other 3 (omega arith))
     (rw (other 4 (omega arith), other 5 (omega arith)))
@@ -86,19 +86,10 @@ pending-back Speed = refl
 pending-back UserCode = refl
 pending-back (UserData x n) = refl
 
-flag-back : (b : Bool) → eqb (flag b) 1 ≡ b
-flag-back true = refl
-flag-back false = refl
-
-four : (i : ℕ) → i < 4 → (h : List ℕ) → getD (getD h 0 0 ∷ getD h 1 0 ∷ getD h 2 0 ∷ getD h 3 0 ∷ []) i 0 ≡ getD h i 0
-four zero lt h = refl
-four (suc zero) lt h = refl
-four (suc (suc zero)) lt h = refl
-four (suc (suc (suc zero))) lt h = refl
-four (suc (suc (suc (suc i)))) lt h = omega arith
-
-held-back : (h : List ℕ) → length h ≡ 4 → getD h 0 0 ∷ getD h 1 0 ∷ getD h 2 0 ∷ getD h 3 0 ∷ [] ≡ h
-held-back h e = ext-getD 0 _ h (sym e) (λ i lt. four i lt h)
+held-back : (h : List ℕ) → length h ≡ 4 → gets 4 0 h ≡ h
+held-back h e =
+    let all : length h ≤ 4 = omega arith in
+    sym (bytewise 4 0 h (omega arith) ∙ rw (drop-of-length-le h all))
 
 -- whatever stands behind them, the packed bytes are read as the condition that they were packed from
 pub back-with : (c : Condition) (r : List ℕ) → Sized c → conditionIn (packedOf c ++ r) ≡ c

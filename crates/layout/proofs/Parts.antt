@@ -47,9 +47,9 @@ module _ (p q w z : List ℕ) (hp : length p ≡ 40) (hq : length q ≡ 40) (hw 
 -- Laid one after the other -----------------------------------------------------------------------------------------------------
 
 -- the next part q, laid behind p
-next : (l p t q x : List ℕ) (a n : ℕ) → l ≡ p ++ t → length p ≡ a → length q ≡ n → n ≤ length t → x ≡ laid q (take n (drop a l))
+behind : (l p t q x : List ℕ) (a n : ℕ) → l ≡ p ++ t → length p ≡ a → length q ≡ n → n ≤ length t → x ≡ laid q (take n (drop a l))
     → take a l ++ (x ++ drop n (drop a l)) ≡ (p ++ q) ++ drop n t
-next l p t q x a n e hp hq h ex =
+behind l p t q x a n e hp hq h ex =
     let d : drop a l ≡ t = rw e (drop-at p t a hp) in
     let f : x ≡ q = ex ∙ filled q (take n (drop a l)) n hq (rw d (length-take-le n t h)) in
     rw (f, d, e, take-at p t a hp) (sym (append-assoc p q (drop n t)))
@@ -70,9 +70,9 @@ four-parts s p q u w x y z v hs hp hq hu hw s₁ s₂ s₃ s₄ ex e₁ ey e₂ 
     let l₃ : length t₃ ≡ 96 = simp length-drop (omega arith) in
     let lq : length (p ++ q) ≡ 64 = length-append p q ∙ (omega arith) in
     let lu : length ((p ++ q) ++ u) ≡ 104 = length-append (p ++ q) u ∙ (omega arith) in
-    let f₁ : s₁ ≡ p ++ t₁ = e₁ ∙ next s [] s p x 0 24 refl refl hp (omega arith) ex in
-    let f₂ : s₂ ≡ (p ++ q) ++ t₂ = e₂ ∙ next s₁ p t₁ q y 24 40 f₁ hp hq (omega arith) ey in
-    let f₃ : s₃ ≡ ((p ++ q) ++ u) ++ t₃ = e₃ ∙ next s₂ (p ++ q) t₂ u z 64 40 f₂ lq hu (omega arith) ez in
-    let f₄ : s₄ ≡ (((p ++ q) ++ u) ++ w) ++ drop 96 t₃ = e₄ ∙ next s₃ ((p ++ q) ++ u) t₃ w v 104 96 f₃ lu hw (omega arith) ev in
+    let f₁ : s₁ ≡ p ++ t₁ = e₁ ∙ behind s [] s p x 0 24 refl refl hp (omega arith) ex in
+    let f₂ : s₂ ≡ (p ++ q) ++ t₂ = e₂ ∙ behind s₁ p t₁ q y 24 40 f₁ hp hq (omega arith) ey in
+    let f₃ : s₃ ≡ ((p ++ q) ++ u) ++ t₃ = e₃ ∙ behind s₂ (p ++ q) t₂ u z 64 40 f₂ lq hu (omega arith) ez in
+    let f₄ : s₄ ≡ (((p ++ q) ++ u) ++ w) ++ drop 96 t₃ = e₄ ∙ behind s₃ ((p ++ q) ++ u) t₃ w v 104 96 f₃ lu hw (omega arith) ev in
     let none : length t₃ ≤ 96 = omega arith in
     f₄ ∙ rw (drop-of-length-le t₃ none) (append-nil (((p ++ q) ++ u) ++ w) ∙ simp append-assoc)

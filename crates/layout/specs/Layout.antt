@@ -1,18 +1,13 @@
 -- The layout of a condition in bytes (document 01, Block): as bytes, and read from bytes.
 use Prim.Native.Nat.{ℕ}
 use mathlib.Core.List.{List, [], _∷_, _++_}
-use mathlib.Core.Bool.{Bool, true, false, cond}
+use mathlib.Core.Bool.{cond}
 use lib.ListN.{length, getD, take, drop}
 use lib.Dec.{eqb, ltb}
 use Rattle.condition.specs.declared.Condition.{Condition}
 use Rattle.condition.specs.declared.Pending.{Pending}
 use Rattle.condition.specs.declared.Pending.the-variants.{Nothing, Escape, Position, Luminance, Speed, UserCode, UserData}
-use Rattle.condition.specs.Condition.{heldOf, powerUp}
-
--- flags 0 or 1
-abbrev pub flag : Bool → ℕ
-flag true = 1
-flag false = 0
+use Rattle.condition.specs.Condition.{flag, heldOf, powerUp}
 
 -- 13 half-received kind 0 to 6 in the order of "The condition"
 abbrev pub kindOf : Pending → ℕ

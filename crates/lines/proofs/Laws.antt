@@ -1,64 +1,46 @@
 -- Text that is added piece by piece.
 use Prim.Native.Nat.{ℕ, zero, suc, _+_, _-_, _*_, _/_, _%_, _^_, _≤_, _<_, min}
-use mathlib.Core.Path.{_≡_, refl, sym, ap, _∙_}
+use mathlib.Core.Path.{_≡_, sym, ap, _∙_}
 use mathlib.Core.Bool.{Bool, true, false, cond}
 use mathlib.Core.List.{List, [], _∷_, _++_, append-assoc, append-nil}
 use native.Mathlib.Omega.{arith}
 use native.Mathlib.Numerals.{add-one}
-use native.Mathlib.Nat.{add-zero, zero-min, min-zero, suc-min-suc, le-trans, mod-eq-of-lt, mod-lt}
+use native.Mathlib.Nat.{add-zero, min-zero, le-trans, mod-eq-of-lt, mod-lt}
 use native.Mathlib.Nat.{div-lt-iff-lt-mul, le-div-iff-mul-le, pow-suc, pow-le-pow-right}
 use lib.Dec.{eqb, ltb, leb, lit<}
 use lib.ListN.{length, take, drop, length-append, length-take, length-drop, drop-of-length-le, take-append-drop}
-use lib.Seq.{take-at, take-all, take-nil, drop-nil, take-append-add, drop-append-add, length-take-le}
+use lib.Seq.{take-at, take-all, take-append-add, drop-append-add, length-take-le}
 use borrow.Author.Tests.{lt-ltb, le-ltb, leb-true, leb-false}
 use borrow.Rule.Slice.PartMut.{postOf}
+use Rattle.laws.proofs.Tests.{split, by-test}
 use Rattle.laws.proofs.Lists.{tail-part}
 use Rattle.row.specs.Row.{laid}
+use Rattle.row.proofs.Laws.{laid-none, laid-empty, laid-both}
 use Rattle.io.specs.Digits.{digits, Fewest}
 use Rattle.interpreter.specs.declared.Ran.{Ran}
 use Rattle.lines.specs.Lines.{Added, each, digit, decimalIn, decimalOf, tallyLine, refusedLine, endStart, endOf, printOf}
-
--- over no place nothing is laid, and of no text nothing
-laid-none : (x : List ℕ) → laid x [] ≡ []
-unfolding laid
-laid-none x = drop-nil (length x)
-
-pub laid-empty : (s : List ℕ) → laid [] s ≡ s
-unfolding laid
-laid-empty s = rw (take-nil {A = ℕ} (length s))
-
--- a text over the start of a row, and then another after it
-laid-both : (x y s : List ℕ)
-    → take (min (length x) (length s)) (laid x s) ++ laid y (drop (min (length x) (length s)) (laid x s)) ≡ laid (x ++ y) s
-unfolding laid
-laid-both [] y s = rw (zero-min (length s), take-nil {A = ℕ} (length s))
-laid-both (b ∷ x) y [] = rw (min-zero (suc (length x)), drop-nil {A = ℕ} (length y))
-laid-both (b ∷ x) y (z ∷ s) = rw (suc-min-suc (length x) (length s)) (ap (λ (l : List ℕ). b ∷ l) (laid-both x y s))
 
 -- x laid from k on
 abbrev put : ℕ → List ℕ → List ℕ → List ℕ
 put k x a = take k a ++ laid x (drop k a)
 
 both-text : (a x y : List ℕ) (k : ℕ) → put (k + min (length x) (length a - k)) y (put k x a) ≡ put k (x ++ y) a
-both-text a x y k = go (leb k (length a)) refl
-  where
-    go : (t : Bool) → leb k (length a) ≡ t → put (k + min (length x) (length a - k)) y (put k x a) ≡ put k (x ++ y) a
-    go true e =
-        let p = take k a in
-        let s = drop k a in
-        let n = min (length x) (length a - k) in
-        let f : n ≡ min (length x) (length s) = ap (min (length x)) (sym (length-drop k a)) in
-        let l : length p ≡ k = length-take-le k a (leb-true k (length a) e) in
-        let g : take (k + n) (p ++ laid x s) ≡ p ++ take n (laid x s) = rw l at (take-append-add p (laid x s) n) in
-        let h : drop (k + n) (p ++ laid x s) ≡ drop n (laid x s) = rw l at (drop-append-add p (laid x s) n) in
-        rw (g, h, append-assoc p (take n (laid x s)) (laid y (drop n (laid x s))), f)
-        (ap (λ (l : List ℕ). p ++ l) (laid-both x y s))
-    go false e =
-        let h : length a < k = leb-false k (length a) e in
-        let z : length a - k ≡ 0 = omega arith in
-        let d : drop k a ≡ [] = drop-of-length-le a {i = k} (omega arith) in
-        let t : take k a ≡ a = take-all k a (omega arith) in
-        rw (z, d, t, min-zero (length x), add-zero k, laid-none x, append-nil a, d, t, laid-none (x ++ y), laid-none y)
+both-text a x y k =
+    split (leb k (length a))
+    (λ e. let p = take k a in
+    let s = drop k a in
+    let n = min (length x) (length a - k) in
+    let f : n ≡ min (length x) (length s) = ap (min (length x)) (sym (length-drop k a)) in
+    let l : length p ≡ k = length-take-le k a (leb-true k (length a) e) in
+    let g : take (k + n) (p ++ laid x s) ≡ p ++ take n (laid x s) = rw l at (take-append-add p (laid x s) n) in
+    let h : drop (k + n) (p ++ laid x s) ≡ drop n (laid x s) = rw l at (drop-append-add p (laid x s) n) in
+    rw (g, h, append-assoc p (take n (laid x s)) (laid y (drop n (laid x s))), f)
+    (ap (λ (l : List ℕ). p ++ l) (laid-both x y s)))
+    (λ e. let h : length a < k = leb-false k (length a) e in
+    let z : length a - k ≡ 0 = omega arith in
+    let d : drop k a ≡ [] = drop-of-length-le a {i = k} (omega arith) in
+    let t : take k a ≡ a = take-all k a (omega arith) in
+    rw (z, d, t, min-zero (length x), add-zero k, laid-none x, append-nil a, d, t, laid-none (x ++ y), laid-none y))
 
 length-put : (k : ℕ) (x a : List ℕ) → length (put k x a) ≡ length a
 unfolding laid
@@ -66,11 +48,11 @@ length-put k x a =
     simp (length-append, length-take, length-drop) (omega arith)
 
 pub same-added : {a b : List ℕ} {k r : ℕ} {x : List ℕ} → Added a k x b r → length b ≡ length a
-same-added {a} {b} {k} {r} {x} p = ap length (p .text) ∙ length-put k x a
+same-added {a} {b} {k} {r} {x} p = ap length (p .buffer) ∙ length-put k x a
 
 -- any two answers that a contract allows are equal
 pub one-added : {a b d : List ℕ} {k m r : ℕ} {x : List ℕ} → Added a k x b m → Added a k x d r → (b ≡ d) × (m ≡ r)
-one-added p q = (p .text ∙ sym (q .text), p .next ∙ sym (q .next))
+one-added p q = (p .buffer ∙ sym (q .buffer), p .next ∙ sym (q .next))
 
 -- two texts, one after the other
 pub both-added : {a b d : List ℕ} {k m r : ℕ} {x y : List ℕ} → Added a k x b m → Added b m y d r → Added a k (x ++ y) d r
@@ -78,14 +60,14 @@ both-added {a} {b} {d} {k} {m} {r} {x} {y} p q =
     let l : length b ≡ length a = same-added p in
     record {
       next = omega (arith, q .next, p .next, l, length-append x y);
-      text = q .text ∙ (rw (p .next, p .text) (both-text a x y k));
+      buffer = q .buffer ∙ (rw (p .next, p .buffer) (both-text a x y k));
     }
 
 -- a word past the end of the buffer, and one that is laid over the part from k on
 pub past-added : (a x : List ℕ) (k : ℕ) → length a ≤ k → Added a k x a k
 past-added a x k h =
     let d : drop k a ≡ [] = drop-of-length-le a {i = k} h in
-    record { next = omega arith; text = rw (d, laid-none x, take-all k a h, append-nil a) }
+    record { next = omega arith; buffer = rw (d, laid-none x, take-all k a h, append-nil a) }
 
 pub word-added : (a x last : List ℕ) (k r : ℕ) → last ≡ laid x (take (length a - k) (drop k a))
     → r ≡ k + min (length x) (length a - k)
@@ -94,12 +76,12 @@ word-added a x last k r e n =
     let l : length (drop k a) ≤ length a - k = omega (arith, length-drop k a) in
     record {
       next = n;
-      text = rw (drop-of-length-le (drop k a) {i = length a - k} l, append-nil last, e, tail-part a k);
+      buffer = rw (drop-of-length-le (drop k a) {i = length a - k} l, append-nil last, e, tail-part a k);
     }
 
 -- no text
 pub none-added : (a : List ℕ) (k : ℕ) → Added a k [] a k
-none-added a k = record { next = omega arith; text = rw (laid-empty (drop k a)) (sym (take-append-drop k a)) }
+none-added a k = record { next = omega arith; buffer = rw (laid-empty (drop k a)) (sym (take-append-drop k a)) }
 
 -- one more of a row of texts
 pub each-added : {a b d : List ℕ} {k m r : ℕ} (f : ℕ → List ℕ) (n : ℕ) → Added a k (each f n) b m → Added b m (f n) d r
@@ -120,7 +102,7 @@ unfolding laid
 whole-added {a} {b} {x} {r} p h =
     let e : r ≡ length x = omega (arith, p .next) in
     let l : length b ≡ length a = same-added p in
-    (rw (p .text, take-all (length a) x h) (take-at x (drop (length x) a) r (sym e)), omega arith)
+    (rw (p .buffer, take-all (length a) x h) (take-at x (drop (length x) a) r (sym e)), omega arith)
 
 -- what is printed of a run, with room for all of it
 pub printed : {a b d : List ℕ} {body : List ℕ} {k n : ℕ} (r : Ran) → Added a 0 body b k → Added b (endStart r k) (endOf r) d n
@@ -164,15 +146,12 @@ digits-decimal (suc f) (suc (suc r)) n h l =
 
 -- a number of 64 bits has at most 20 digits
 fewest-20 : (n r : ℕ) → Fewest 10 1 n r → n < 2 ^ 64 → r ≤ 20
-fewest-20 n r f h = go (leb r 20) refl
-  where
-    go : (t : Bool) → leb r 20 ≡ t → r ≤ 20
-    go true e = leb-true r 20 e
-    go false e =
-        let l : 20 < r = leb-false r 20 e in
-        let p : 10 ^ 20 ≤ 10 ^ (r - 1) = pow-le-pow-right {n = 10} (lit< tt) {i = 20} {j = r - 1} (omega arith) in
-        let q : 10 ^ (r - 1) ≤ n = f .2 (omega arith) in
-        omega arith
+fewest-20 n r f h =
+    split (leb r 20) (λ e. leb-true r 20 e)
+    (λ e. let l : 20 < r = leb-false r 20 e in
+    let p : 10 ^ 20 ≤ 10 ^ (r - 1) = pow-le-pow-right {n = 10} (lit< tt) {i = 20} {j = r - 1} (omega arith) in
+    let q : 10 ^ (r - 1) ≤ n = f .2 (omega arith) in
+    omega arith)
 
 pub decimal-is : (d : List ℕ) (n r : ℕ) → Fewest 10 1 n r → n < 2 ^ 64 → take r d ≡ digits 10 r n → take r d ≡ decimalOf n
 unfolding decimalOf
@@ -181,12 +160,9 @@ decimal-is d n r f h e = e ∙ digits-decimal 20 r n f (fewest-20 n r f h)
 decimal-in-length : (f n : ℕ) → length (decimalIn f n) ≤ f
 unfolding decimalIn
 decimal-in-length zero n = omega arith
-decimal-in-length (suc f) n = go (decimal-in-length f (n / 10)) (ltb n 10)
-  where
-    go : length (decimalIn f (n / 10)) ≤ f → (t : Bool)
-        → length (cond t (digit n ∷ []) (decimalIn f (n / 10) ++ digit (n % 10) ∷ [])) ≤ suc f
-    go h true = omega arith
-    go h false = omega (arith, length-append (decimalIn f (n / 10)) (digit (n % 10) ∷ []))
+decimal-in-length (suc f) n =
+    by-test (λ (x : List ℕ). length x ≤ suc f) (ltb n 10) (λ _. omega arith)
+    (λ _. omega (arith, decimal-in-length f (n / 10), length-append (decimalIn f (n / 10)) (digit (n % 10) ∷ [])))
 
 pub decimal-length : (n : ℕ) → length (decimalOf n) ≤ 20
 unfolding decimalOf
@@ -195,10 +171,8 @@ decimal-length n = decimal-in-length 20 n
 -- what ends a print has at most 86 bytes
 pub print-length : (body : List ℕ) (r : Ran) → length (printOf body r) ≤ length body + 86
 unfolding printOf tallyLine refusedLine
-print-length body r = go (eqb (r .refusal) 0)
-  where
-    go : (t : Bool) → length (cond t (body ++ tallyLine (r .tally)) (refusedLine (r .refusal))) ≤ length body + 86
-    go true =
-        let t = r .tally in
-        simp length-append (omega (arith, decimal-length (t .bytes), decimal-length (t .busy), decimal-length (t .flickerless)))
-    go false = simp length-append (omega (arith, decimal-length (r .refusal)))
+print-length body r =
+    by-test (λ (x : List ℕ). length x ≤ length body + 86) (eqb (r .refusal) 0)
+    (λ _. let t = r .tally in
+    simp length-append (omega (arith, decimal-length (t .bytes), decimal-length (t .busy), decimal-length (t .flickerless))))
+    (λ _. simp length-append (omega (arith, decimal-length (r .refusal))))

@@ -21,7 +21,7 @@ text (c ∷ˢ s) = code c ∷ text s
 -- the text x was added at k, as far as there is room, and r is the place after it
 pub record Added (before : List ℕ) (k : ℕ) (x : List ℕ) (after : List ℕ) (r : ℕ) : Type 0 where
   pub next : r ≡ k + min (length x) (length before - k)
-  pub text : after ≡ take k before ++ laid x (drop k before)
+  pub buffer : after ≡ take k before ++ laid x (drop k before)
 
 -- the texts f 0 to f (n - 1), one after the other
 unfoldable pub each : (ℕ → List ℕ) → ℕ → List ℕ

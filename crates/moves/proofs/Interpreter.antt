@@ -1,7 +1,6 @@
 -- The moves are the interpreter's: in mode 1, nothing half received and no user character on the byte, what a byte of a move does
--- (crates/condition/specs/Bytes) is to bring the cursor to where the move leads.
+-- (condition/specs/Bytes) is to bring the cursor to where the move leads.
 use mathlib.Core.Path.{_≡_, refl, sym, ap, _∙_, subst}
-use mathlib.Core.Logic.{⊎-elim}
 use mathlib.Core.Bool.{Bool, true, false, cond, _||_, or-assoc, or-false}
 use mathlib.Core.List.{List, [], _∷_}
 use Prim.Native.Nat.{ℕ, _+_, _-_, _%_, _≤_, _<_}
@@ -9,28 +8,24 @@ use native.Mathlib.Omega.{arith}
 use lib.Dec.{eqb, ltb, leb}
 use lib.ListN.{length}
 use borrow.Author.Tests.{eqb-true, eqb-false, eq-eqb, ne-eqb, ltb-true, ltb-false, lt-ltb, le-ltb, leb-true, le-leb}
-use Rattle.laws.proofs.Tests.{bool, clash, both, neither}
+use Rattle.laws.proofs.Tests.{split, clash, both}
 use Rattle.row.specs.Row.{lineStart}
 use Rattle.users.specs.Users.{isUser}
 use Rattle.condition.specs.declared.Condition.{Condition}
 use Rattle.condition.specs.declared.Pending.{Pending}
-use Rattle.condition.specs.declared.Pending.the-variants.{Nothing, Escape, Position, Luminance, Speed, UserCode, UserData}
+use Rattle.condition.specs.declared.Pending.the-variants.{Nothing, Escape, Position}
 use Rattle.condition.specs.Condition.{idle, wellFormed}
 use Rattle.condition.specs.Set.{withCursor, withCell, withScrolling, withPending, goTo}
 use Rattle.condition.specs.Bytes.{leftOf, rightOf, downOf, returnOf, writeOf, controlOf, escapeOf, positionOf}
 use Rattle.condition.specs.Bytes.{isChar, stepAt, stepOf, runOf}
 use Rattle.condition.specs.Steps.{isMove, stepByte, lowAfter, inOrder}
-use Rattle.condition.proofs.Good.{good}
+use Rattle.condition.proofs.Characters.{no-user}
+use Rattle.condition.proofs.Good.{idle-is, good}
 use Rattle.condition.proofs.Kept.{scroll-off}
 use Rattle.moves.specs.Moves.{any, left, next, down, moves, move}
 use Rattle.moves.specs.Ways.{Jump, none, escape, place, path, leadsTo, atMost}
 use Rattle.moves.proofs.Moving.{each-move, move-below}
 use Rattle.moves.proofs.Strings.{shortest}
-
--- a byte that is no character is no user code
-pub no-user : (c : Condition) (b : ℕ) → isChar c b ≡ false → isUser (c .users) b ≡ false
-unfolding isChar
-no-user c b e = neither (isUser (c .users) b) (leb 0x20 b) e .0
 
 -- a condition from which moves start
 pub record Ready (c : Condition) : Type 0 where
@@ -38,15 +33,6 @@ pub record Ready (c : Condition) : Type 0 where
   pub still : c .scrolling ≡ false
   pub inside : c .cursor < 40
   pub whole : c .pending ≡ Nothing
-
-pub idle-is : (p : Pending) → idle p ≡ true → p ≡ Nothing
-idle-is Nothing e = refl
-idle-is Escape e = clash e refl
-idle-is Position e = clash e refl
-idle-is Luminance e = clash e refl
-idle-is Speed e = clash e refl
-idle-is UserCode e = clash e refl
-idle-is (UserData code n) e = clash e refl
 
 -- a well-formed condition in mode 1 with nothing half received is one
 pub ready : (c : Condition) → wellFormed c ≡ true → c .mode ≡ 1 → idle (c .pending) ≡ true → Ready c
@@ -70,12 +56,10 @@ go-is c x e = λ i. withScrolling (withCursor c x) (sym e i)
 next-is : (p : ℕ) → p < 40 → cond (ltb (p % 20) 19) (p + 1) (cond (eqb p 19) 20 0) ≡ next p
 unfolding next
 next-is p h =
-    ⊎-elim (λ (e : ltb (p % 20) 19 ≡ true). rw (e, lt-ltb p 39 (omega (arith, ltb-true (p % 20) 19 e))))
-    (λ (e : ltb (p % 20) 19 ≡ false).
-    ⊎-elim (λ (z : eqb p 19 ≡ true). rw (e, z, eqb-true p 19 z))
-    (λ (z : eqb p 19 ≡ false). rw (e, z, le-ltb p 39 (omega (arith, ltb-false (p % 20) 19 e, eqb-false p 19 z))))
-    (bool (eqb p 19)))
-    (bool (ltb (p % 20) 19))
+    split (ltb (p % 20) 19) (λ e. rw (e, lt-ltb p 39 (omega (arith, ltb-true (p % 20) 19 e))))
+    (λ e.
+    split (eqb p 19) (λ z. rw (e, z, eqb-true p 19 z))
+    (λ z. rw (e, z, le-ltb p 39 (omega (arith, ltb-false (p % 20) 19 e, eqb-false p 19 z)))))
 
 pub right-is : (c : Condition) → c .mode ≡ 1 → c .cursor < 40 → rightOf c ≡ withCursor c (next (c .cursor))
 unfolding rightOf
@@ -161,15 +145,14 @@ module _ (c : Condition) (r : Ready c) (free : (m : ℕ) → any (eqb m) moves �
   leads-there (x ∷ xs) none a b h l =
       let d = partly c none a in
       let g = partly-ready c a r h in
-      ⊎-elim
-      (λ (e : eqb x 0x1B ≡ true).
+      split (eqb x 0x1B)
+      (λ e.
       ap (λ (d : Condition). runOf d xs) (ap (stepOf d) (eqb-true x 0x1B e) ∙ escapes d g free1B)
       ∙ leads-there xs escape a b h (rw e at l))
-      (λ (e : eqb x 0x1B ≡ false). let o = rw e at l in
+      (λ e. let o = rw e at l in
       let i : any (eqb x) moves ≡ true = both (any (eqb x) moves) _ o .0 in
       ap (λ (d : Condition). runOf d xs) (moves-to d g x i (free x i))
       ∙ leads-there xs none (move x a) b (move-below x a h) (both (any (eqb x) moves) _ o .1))
-      (bool (eqb x 0x1B))
   leads-there (x ∷ xs) escape a b h l =
       ap (λ (d : Condition). runOf d xs) (ap (stepOf (partly c escape a)) (eqb-true x 0x48 (both (eqb x 0x48) _ l .0)))
       ∙ leads-there xs place a b h (both (eqb x 0x48) _ l .1)
@@ -215,21 +198,19 @@ leads-back c r (x ∷ xs) none a h o =
     let d = partly c none a in
     let may = both (stepByte Nothing d 40 x) (inOrder (stepOf d x) (lowAfter d 40 x) xs) o .0 in
     let rest = both (stepByte Nothing d 40 x) (inOrder (stepOf d x) (lowAfter d 40 x) xs) o .1 in
-    ⊎-elim
-    (λ (e : isChar c x ≡ true). let l : 40 ≤ a = leb-true 40 a (rw e at may) in absurd (omega arith))
-    (λ (e : isChar c x ≡ false). let m : (isMove x || eqb x 0x1B) ≡ true = rw e at may in
+    split (isChar c x)
+    (λ e. let l : 40 ≤ a = leb-true 40 a (rw e at may) in absurd (omega arith))
+    (λ e. let m : (isMove x || eqb x 0x1B) ≡ true = rw e at may in
     let low : lowAfter d 40 x ≡ 40 = rw e in
     let on = subst (λ (n : ℕ). inOrder (stepOf d x) n xs ≡ true) low rest in
     let u = no-user c x e in
-    ⊎-elim
-    (λ (z : eqb x 0x1B ≡ true). let q : x ≡ 0x1B = eqb-true x 0x1B z in
+    split (eqb x 0x1B)
+    (λ z. let q : x ≡ 0x1B = eqb-true x 0x1B z in
     let n = ap (stepOf d) q ∙ escapes d (partly-ready c a r h) (ap (isUser (c .users)) (sym q) ∙ u) in
     rw z (carried escape a xs n (leads-back c r xs escape a h) on))
-    (λ (z : eqb x 0x1B ≡ false). let i : any (eqb x) moves ≡ true = sym (is-move x) ∙ (rw (z, or-false) at m) in
+    (λ z. let i : any (eqb x) moves ≡ true = sym (is-move x) ∙ (rw (z, or-false) at m) in
     let n = moves-to d (partly-ready c a r h) x i u in
-    rw (z, i) (carried none (move x a) xs n (leads-back c r xs none (move x a) (move-below x a h)) on))
-    (bool (eqb x 0x1B)))
-    (bool (isChar c x))
+    rw (z, i) (carried none (move x a) xs n (leads-back c r xs none (move x a) (move-below x a h)) on)))
 leads-back c r (x ∷ xs) escape a h o =
     let e = both (eqb x 0x48) _ o .0 in
     let n = ap (stepOf (partly c escape a)) (eqb-true x 0x48 e) in

@@ -1,4 +1,4 @@
-pub mod Lists
+pub mod Members
 pub mod Moving
 pub mod Rule
 pub mod Strings

@@ -2,16 +2,17 @@
 use mathlib.Core.Path.{_≡_, refl, sym, ap, subst}
 use mathlib.Core.Logic.{_⊎_, inl, inr, ⊎-elim}
 use mathlib.Core.Bool.{Bool, true, false, cond}
-use Prim.Native.Nat.{ℕ, zero, suc, _+_, _%_, _≤_, _<_}
+use Prim.Native.Nat.{ℕ, zero, suc, _+_, _-_, _%_, _≤_, _<_}
+use native.Mathlib.Nat.{add-zero}
 use native.Mathlib.Omega.{arith}
 use lib.Dec.{eqb, ltb}
 use lib.ListN.{length}
-use borrow.Author.Tests.{eqb-true, eq-eqb, ltb-true, ltb-false}
-use Rattle.laws.proofs.Tests.{bool, clash, by-test}
-use Rattle.row.specs.Row.{lineStart}
+use borrow.Author.Tests.{eqb-true, eq-eqb, ltb-true, ltb-false, lt-ltb}
+use Rattle.laws.proofs.Tests.{split, clash, by-test}
+use Rattle.row.proofs.Laws.{line-start-20}
 use Rattle.moves.specs.Moves.{any, find, left, next, down, moves, move, near1, near2, rank, dist}
 use Rattle.moves.specs.Ways.{leaves, firstByte, pathOf, path}
-use Rattle.moves.proofs.Lists.{any-at, find-at, find-in, find-none}
+use Rattle.moves.proofs.Members.{any-at, find-at, find-in, find-none}
 
 -- how far one step can bring us nearer
 rank-step : (e n1 n2 e′ n1′ n2′ : Bool) → (e′ ≡ true → n1 ≡ true) → (n1′ ≡ true → n2 ≡ true) → rank e n1 n2 ≤ 1 + rank e′ n1′ n2′
@@ -88,8 +89,8 @@ two-first a b n h =
     let e : near1 (move m a) b ≡ true = find-at (λ k. near1 (move k a) b) moves 0 h in
     let i : any (eqb m) moves ≡ true = find-in (λ k. near1 (move k a) b) moves 0 h in
     any-at (leaves 1 a b) moves m i
-    (⊎-elim (λ z. clash (any-at (λ k. eqb (move k a) b) moves m i z) n) (λ z. eq-eqb _ _ (dist-one (move m a) b z e))
-    (bool (eqb (move m a) b)))
+    (split (eqb (move m a) b) (λ z. clash (any-at (λ k. eqb (move k a) b) moves m i z) n)
+    (λ z. eq-eqb _ _ (dist-one (move m a) b z e)))
 
 pub first : (n a b : ℕ) → dist a b ≡ suc n → n < 2 → any (leaves n a b) moves ≡ true
 unfolding dist
@@ -106,34 +107,29 @@ pub first-byte : (n a b : ℕ) → dist a b ≡ suc n
 unfolding firstByte leaves
 first-byte n a b h =
     let f = firstByte n a b in
-    ⊎-elim (λ e. let i = find-in (leaves n a b) moves 0x1B e in
+    split (any (leaves n a b) moves) (λ e. let i = find-in (leaves n a b) moves 0x1B e in
     inl (
-      ⊎-elim (λ z. clash i (ap (λ (m : ℕ). any (eqb m) moves) (eqb-true f 0x1B z))) (λ z. z) (bool (eqb f 0x1B)),
+      split (eqb f 0x1B) (λ z. clash i (ap (λ (m : ℕ). any (eqb m) moves) (eqb-true f 0x1B z))) (λ z. z),
       i,
       eqb-true _ _ (find-at (leaves n a b) moves 0x1B e),
     ))
     (λ e. inr (
       eq-eqb (firstByte n a b) 0x1B (find-none (leaves n a b) moves 0x1B e),
-      ⊎-elim (λ z. clash (first n a b h (ltb-true n 2 z)) e) (λ z. omega (arith, ltb-false n 2 z, dist-most a b)) (bool (ltb n 2)),
+      split (ltb n 2) (λ z. clash (first n a b h (ltb-true n 2 z)) e) (λ z. omega (arith, ltb-false n 2 z, dist-most a b)),
     ))
-    (bool (any (leaves n a b) moves))
 
 -- where a move leads
 pub next-below : (p : ℕ) → p < 40 → next p < 40
 unfolding next
-next-below p h = ⊎-elim (λ e. rw e (omega (arith, ltb-true p 39 e))) (λ e. rw e (omega arith)) (bool (ltb p 39))
+next-below p h = split (ltb p 39) (λ e. rw e (omega (arith, ltb-true p 39 e))) (λ e. rw e (omega arith))
 
 left-below : (p : ℕ) → p < 40 → left p < 40
 unfolding left
-left-below p h = ⊎-elim (λ e. rw e (omega arith)) (λ e. rw e (omega arith)) (bool (eqb (p % 20) 0))
+left-below p h = split (eqb (p % 20) 0) (λ e. rw e (omega arith)) (λ e. rw e (omega arith))
 
 down-below : (p : ℕ) → p < 40 → down p < 40
 unfolding down
-down-below p h = ⊎-elim (λ e. rw e (omega (arith, ltb-true p 20 e))) (λ e. rw e (omega arith)) (bool (ltb p 20))
-
-start-below : (p : ℕ) → lineStart p < 40
-unfolding lineStart
-start-below p = ⊎-elim (λ e. rw e (omega arith)) (λ e. rw e (omega arith)) (bool (ltb p 20))
+down-below p h = split (ltb p 20) (λ e. rw e (omega (arith, ltb-true p 20 e))) (λ e. rw e (omega arith))
 
 either-below : (b : Bool) (x y : ℕ) → x < 40 → y < 40 → cond b x y < 40
 either-below b x y hx hy = by-test (λ (n : ℕ). n < 40) b (λ _. hx) (λ _. hy)
@@ -143,7 +139,26 @@ unfolding move
 move-below m p h =
     either-below (eqb m 8) _ _ (left-below p h)
     (either-below (eqb m 9) _ _ (next-below p h)
-    (either-below (eqb m 10) _ _ (down-below p h) (either-below (eqb m 12) _ _ (omega arith) (start-below p))))
+    (either-below (eqb m 10) _ _ (down-below p h) (either-below (eqb m 12) _ _ (omega arith) (omega (arith, line-start-20 p)))))
+
+-- 09h leads on, and so many of them as far as there are places
+pub next-up : (p : ℕ) → p < 39 → next p ≡ p + 1
+unfolding next
+next-up p h = rw (lt-ltb p 39 h)
+
+along : (d p : ℕ) → p + d < 40 → dist p (p + d) ≤ d
+unfolding next move
+along zero p h = rw (add-zero p, dist-self p) (omega arith)
+along (suc d) p h =
+    let i : dist (next p) (p + suc d) ≤ d =
+    rw (next-up p (omega arith)) (subst (λ (k : ℕ). dist (p + 1) k ≤ d) (omega arith) (along d (p + 1) (omega arith))) in
+    omega (arith, dist-step 0x09 p (p + suc d) refl)
+
+pub dist-along : (p x : ℕ) → p ≤ x → x < 40 → dist p x + p ≤ x
+dist-along p x l h =
+    let e : p + (x - p) ≡ x = omega arith in
+    let i : dist p x ≤ x - p = subst (λ (k : ℕ). dist p k ≤ x - p) e (along (x - p) p (omega arith)) in
+    omega arith
 
 -- as many bytes as the distance
 path-length : (n a b : ℕ) → dist a b ≡ n → length (pathOf n a b) ≡ n
@@ -161,13 +176,12 @@ length-path a b = path-length (dist a b) a b refl
 -- what holds of each move byte
 pub each-move : (P : ℕ → Type 0) → P 8 → P 9 → P 10 → P 12 → P 13 → (m : ℕ) → any (eqb m) moves ≡ true → P m
 each-move P h8 h9 h10 h12 h13 m i =
-    ⊎-elim (λ (e : eqb m 8 ≡ true). subst P (sym (eqb-true m 8 e)) h8)
-    (λ (e8 : eqb m 8 ≡ false). ⊎-elim (λ (e : eqb m 9 ≡ true). subst P (sym (eqb-true m 9 e)) h9)
-    (λ (e9 : eqb m 9 ≡ false). ⊎-elim (λ (e : eqb m 10 ≡ true). subst P (sym (eqb-true m 10 e)) h10)
-    (λ (e10 : eqb m 10 ≡ false). ⊎-elim (λ (e : eqb m 12 ≡ true). subst P (sym (eqb-true m 12 e)) h12)
-    (λ (e12 : eqb m 12 ≡ false). ⊎-elim (λ (e : eqb m 13 ≡ true). subst P (sym (eqb-true m 13 e)) h13)
-    (λ (e : eqb m 13 ≡ false). clash i (rw (e8, e9, e10, e12, e)))
-    (bool (eqb m 13))) (bool (eqb m 12))) (bool (eqb m 10))) (bool (eqb m 9))) (bool (eqb m 8))
+    split (eqb m 8) (λ e. subst P (sym (eqb-true m 8 e)) h8)
+    (λ e8. split (eqb m 9) (λ e. subst P (sym (eqb-true m 9 e)) h9)
+    (λ e9. split (eqb m 10) (λ e. subst P (sym (eqb-true m 10 e)) h10)
+    (λ e10. split (eqb m 12) (λ e. subst P (sym (eqb-true m 12 e)) h12)
+    (λ e12. split (eqb m 13) (λ e. subst P (sym (eqb-true m 13 e)) h13)
+    (λ e. clash i (rw (e8, e9, e10, e12, e)))))))
 
 pub path-most : (a b : ℕ) → length (path a b) ≤ 3
 path-most a b = omega (arith, length-path a b, dist-most a b)

@@ -1,12 +1,12 @@
 -- The rule of the table (document 01, Planner's steps) holds of the fewest move bytes.
 use mathlib.Core.Path.{_≡_, refl, sym, ap, _∙_}
 use mathlib.Core.Logic.{_≢_, ⊎-elim}
-use mathlib.Core.Bool.{true, false}
+use mathlib.Core.Bool.{true}
 use Prim.Native.Nat.{ℕ, zero, suc, _+_, _≤_, _<_}
 use native.Mathlib.Omega.{arith}
 use lib.Dec.{eqb}
 use borrow.Author.Tests.{lt-ltb, eqb-true, eqb-false}
-use Rattle.laws.proofs.Tests.{bool}
+use Rattle.laws.proofs.Tests.{split}
 use Rattle.moves.specs.Moves.{any, moves, move, dist, fewestOf, leastUpTo, least, Ruled}
 use Rattle.moves.specs.Ways.{firstByte}
 use Rattle.moves.proofs.Moving.{dist-step, dist-most, dist-self, dist-zero, first-byte, each-move, move-below}
@@ -20,9 +20,8 @@ least-at : (f : ℕ → ℕ) (n p : ℕ) → p ≤ n → leastUpTo f n ≤ f p
 unfolding leastUpTo
 least-at f zero p h = let e : p ≡ 0 = omega arith in rw e (omega arith)
 least-at f (suc n) p h =
-    ⊎-elim (λ (e : eqb p (suc n) ≡ true). rw (eqb-true p (suc n) e) (omega arith))
-    (λ (e : eqb p (suc n) ≡ false). omega (arith, least-at f n p (omega (arith, eqb-false p (suc n) e))))
-    (bool (eqb p (suc n)))
+    split (eqb p (suc n)) (λ e. rw (eqb-true p (suc n) e) (omega arith))
+    (λ e. omega (arith, least-at f n p (omega (arith, eqb-false p (suc n) e))))
 
 -- and at least what is at most each
 least-over : (f : ℕ → ℕ) (k n : ℕ) → ((p : ℕ) → k ≤ f p) → k ≤ leastUpTo f n

@@ -1,14 +1,14 @@
 -- The path is the shortest of all move strings between two places, and of equals the smallest by first differing byte.
 use mathlib.Core.Path.{_≡_, refl, sym, ap, _∙_}
 use mathlib.Core.Logic.{⊎-elim}
-use mathlib.Core.Bool.{Bool, true, false, _&&_, _||_, or-true}
+use mathlib.Core.Bool.{Bool, true, _&&_, _||_, or-true}
 use mathlib.Core.List.{List, [], _∷_}
 use Prim.Native.Nat.{ℕ, zero, suc, _+_, _≤_, _<_}
 use native.Mathlib.Omega.{arith}
 use lib.Dec.{eqb, ltb, leb}
 use lib.ListN.{length}
 use borrow.Author.Tests.{eqb-true, eqb-false, eq-eqb, leb-true, le-leb, lt-ltb}
-use Rattle.laws.proofs.Tests.{bool, clash, both}
+use Rattle.laws.proofs.Tests.{split, clash, both}
 use Rattle.moves.specs.Moves.{any, find, moves, move, dist}
 use Rattle.moves.specs.Ways.{leaves, firstByte, pathOf, path, Jump, none, escape, place, leadsTo, atMost, Shortest}
 use Rattle.moves.proofs.Moving.{dist-step, dist-most, dist-self, dist-zero, first-byte, each-move, length-path}
@@ -25,10 +25,9 @@ move-fewest [] none a b h = rw (eqb-true a b h, dist-self b) (omega arith)
 move-fewest [] escape a b h = clash h refl
 move-fewest [] place a b h = clash h refl
 move-fewest (x ∷ xs) none a b h =
-    ⊎-elim (λ (e : eqb x 0x1B ≡ true). omega (arith, move-fewest xs escape a b (rw e at h)))
-    (λ (e : eqb x 0x1B ≡ false). let o = both (any (eqb x) moves) _ (rw e at h) in
+    split (eqb x 0x1B) (λ e. omega (arith, move-fewest xs escape a b (rw e at h)))
+    (λ e. let o = both (any (eqb x) moves) _ (rw e at h) in
     omega (arith, dist-step x a b (o .0), move-fewest xs none (move x a) b (o .1)))
-    (bool (eqb x 0x1B))
 move-fewest (x ∷ xs) escape a b h = omega (arith, move-fewest xs place a b (both (eqb x 0x48) _ h .1))
 move-fewest (x ∷ xs) place a b h = omega (arith, dist-most a b)
 
@@ -44,22 +43,18 @@ rising (y ∷ ys) = over y ys && rising ys
 over-at : (y x : ℕ) (xs : List ℕ) → over y xs ≡ true → any (eqb x) xs ≡ true → y ≤ x
 over-at y x [] o m = clash m refl
 over-at y x (z ∷ zs) o m =
-    ⊎-elim (λ (e : eqb x z ≡ true). omega (arith, eqb-true x z e, leb-true y z (both (leb y z) _ o .0)))
-    (λ (e : eqb x z ≡ false). over-at y x zs (both (leb y z) _ o .1) (rw e at m))
-    (bool (eqb x z))
+    split (eqb x z) (λ e. omega (arith, eqb-true x z e, leb-true y z (both (leb y z) _ o .0)))
+    (λ e. over-at y x zs (both (leb y z) _ o .1) (rw e at m))
 
 find-least : (f : ℕ → Bool) (xs : List ℕ) (d x : ℕ) → rising xs ≡ true → any (eqb x) xs ≡ true → f x ≡ true → find f xs d ≤ x
 find-least f [] d x r m h = clash m refl
 find-least f (y ∷ ys) d x r m h =
     let o = both (over y ys) _ r in
-    ⊎-elim (λ (e : f y ≡ true). rw e
-    (⊎-elim (λ (z : eqb x y ≡ true). omega (arith, eqb-true x y z)) (λ (z : eqb x y ≡ false). over-at y x ys (o .0) (rw z at m))
-    (bool (eqb x y))))
-    (λ (e : f y ≡ false). rw e
-    (⊎-elim (λ (z : eqb x y ≡ true). clash h (ap f (eqb-true x y z) ∙ e))
-    (λ (z : eqb x y ≡ false). find-least f ys d x (o .1) (rw z at m) h)
-    (bool (eqb x y))))
-    (bool (f y))
+    split (f y) (λ e. rw e
+    (split (eqb x y) (λ z. omega (arith, eqb-true x y z)) (λ z. over-at y x ys (o .0) (rw z at m))))
+    (λ e. rw e
+    (split (eqb x y) (λ z. clash h (ap f (eqb-true x y z) ∙ e))
+    (λ z. find-least f ys d x (o .1) (rw z at m) h)))
 
 below-esc : (m : ℕ) → any (eqb m) moves ≡ true → m < 0x1B
 below-esc = each-move (λ m. m < 0x1B) (omega arith) (omega arith) (omega arith) (omega arith) (omega arith)
@@ -95,26 +90,24 @@ smallest (suc n) a b [] d h l = absurd (omega arith)
 smallest (suc n) a b (x ∷ xs) d h l =
     let f = firstByte n a b in
     let on = pathOf n (move f a) b in
-    ⊎-elim
-    (λ (e : eqb x 0x1B ≡ true). ⊎-elim
+    split (eqb x 0x1B)
+    (λ e. ⊎-elim
     (λ r. rw (r .0) (less-head f x on xs (omega (arith, eqb-true x 0x1B e, below-esc f (r .1)))))
     (λ r. rw (r .0) (only-jump a b x xs (eqb-true x 0x1B e) (omega (arith, r .1)) (rw e at h)))
     (first-byte n a b d))
-    (λ (e : eqb x 0x1B ≡ false).
+    (λ e.
     let o = rw e at h in
     let i : any (eqb x) moves ≡ true = both (any (eqb x) moves) _ o .0 in
     let t : leadsTo none (move x a) b xs ≡ true = both (any (eqb x) moves) _ o .1 in
     let c : dist (move x a) b ≡ n = omega (arith, dist-step x a b i, move-fewest xs none (move x a) b t) in
     let v : f ≤ x = find-least (leaves n a b) moves 0x1B x refl i (leaves-at n a b x c) in
     ⊎-elim
-    (λ r. rw (r .0) (⊎-elim
-    (λ (z : eqb f x ≡ true). let g = eqb-true f x z in
+    (λ r. rw (r .0) (split (eqb f x)
+    (λ z. let g = eqb-true f x z in
     same-head f x on xs g (rw g (smallest n (move x a) b xs c t (omega arith))))
-    (λ (z : eqb f x ≡ false). less-head f x on xs (omega (arith, eqb-false f x z)))
-    (bool (eqb f x))))
+    (λ z. less-head f x on xs (omega (arith, eqb-false f x z)))))
     (λ r. absurd (omega (arith, below-esc x i, eqb-true f 0x1B (r .0))))
     (first-byte n a b d))
-    (bool (eqb x 0x1B))
 
 -- the path is a move string that leads there
 path-leads : (n a b : ℕ) → dist a b ≡ n → b < 40 → leadsTo none a b (pathOf n a b) ≡ true

@@ -2,14 +2,13 @@
 -- come. Mode 1. `chars` says which bytes are written as characters, `mark` whether the Euro mark was on at the start, and
 -- `switching` whether the steps are those of document 01 alone or have 19h and 18h besides.
 use mathlib.Core.Path.{_≡_}
-use mathlib.Core.Logic.{⊎-elim}
 use mathlib.Core.Bool.{Bool, true, false, cond, not, _&&_, _||_, or-false}
 use mathlib.Core.List.{List, [], _∷_}
 use Prim.Native.Nat.{ℕ, suc, _≤_}
 use lib.Dec.{eqb, leb}
 use lib.ListN.{getD, set}
 use borrow.Author.Tests.{eqb-true, leb-true}
-use Rattle.laws.proofs.Tests.{bool, both}
+use Rattle.laws.proofs.Tests.{split, both}
 use Rattle.moves.specs.Moves.{any, moves, move, next}
 use Rattle.planner.specs.Fonts.{wrongCell}
 
@@ -91,20 +90,16 @@ module _ (switching mark : Bool) (chars : ℕ → Bool) where
       → P (stepAt none p f cs fs b) (lowAt none p lo b)
   unfolding stepAt allowed lowAt
   by-kind P p lo f cs fs b a write esc move on off1 off0 =
-      ⊎-elim (λ (e : chars b ≡ true). rw e (write e (leb-true lo p (rw e at a))))
-      (λ (e : chars b ≡ false). rw e
-      (⊎-elim (λ (z : eqb b 0x1B ≡ true). rw z (esc e (eqb-true b 0x1B z)))
-      (λ (z : eqb b 0x1B ≡ false). rw z
-      (⊎-elim (λ (m : any (eqb b) moves ≡ true). rw m (move e m))
-      (λ (m : any (eqb b) moves ≡ false).
+      split (chars b) (λ e. rw e (write e (leb-true lo p (rw e at a))))
+      (λ e. rw e
+      (split (eqb b 0x1B) (λ z. rw z (esc e (eqb-true b 0x1B z)))
+      (λ z. rw z
+      (split (any (eqb b) moves) (λ m. rw m (move e m))
+      (λ m.
       let o = rw (e, z, m) at a in
       let s : switching ≡ true = both switching _ o .0 in
       rw m
-      (⊎-elim (λ (y : eqb b 0x19 ≡ true). rw y (on e s (eqb-true b 0x19 y)))
-      (λ (y : eqb b 0x19 ≡ false).
+      (split (eqb b 0x19) (λ y. rw y (on e s (eqb-true b 0x19 y)))
+      (λ y.
       let t : b ≡ 0x18 = eqb-true b 0x18 (rw (y, or-false) at (both switching _ o .1)) in
-      rw y (⊎-elim (λ (k : mark ≡ true). rw k (off1 e s t k)) (λ (k : mark ≡ false). rw k (off0 e s t k)) (bool mark)))
-      (bool (eqb b 0x19))))
-      (bool (any (eqb b) moves))))
-      (bool (eqb b 0x1B))))
-      (bool (chars b))
+      rw y (split mark (λ k. rw k (off1 e s t k)) (λ k. rw k (off0 e s t k))))))))))

@@ -1,20 +1,20 @@
 -- Laws of the list of flagged places and of what it costs to write them.
-use mathlib.Core.Path.{_≡_, refl, sym, ap, _∙_, subst}
-use mathlib.Core.Logic.{_≢_, ⊎-elim}
+use mathlib.Core.Path.{_≡_, refl, sym, ap, _∙_}
+use mathlib.Core.Logic.{_≢_}
 use mathlib.Core.Bool.{Bool, true, false, cond}
 use mathlib.Core.List.{List, [], _∷_}
-use Prim.Native.Nat.{ℕ, zero, suc, _+_, _-_, _*_, _≤_, _<_}
-use native.Mathlib.Nat.{le-refl, add-zero}
+use Prim.Native.Nat.{ℕ, zero, suc, _+_, _*_, _≤_, _<_}
+use native.Mathlib.Nat.{le-refl}
 use native.Mathlib.Numerals.{add-one}
 use native.Mathlib.Omega.{arith}
 use lib.Dec.{eqb}
 use lib.ListN.{length, length-append, getD}
-use borrow.Author.Tests.{eqb-true, eqb-false, eq-eqb, ne-eqb, lt-ltb}
-use Rattle.laws.proofs.Tests.{bool}
+use borrow.Author.Tests.{eqb-true, eqb-false, eq-eqb, ne-eqb}
+use Rattle.laws.proofs.Tests.{split, by-equal}
 use Rattle.moves.specs.Moves.{next, move, dist}
 use Rattle.planner.specs.Plan.{flagged}
 use Rattle.planner.specs.Fonts.{switch, fontsPlanOf}
-use Rattle.moves.proofs.Moving.{dist-step, dist-most, dist-self, length-path}
+use Rattle.moves.proofs.Moving.{dist-step, dist-most, next-up, dist-along, length-path}
 
 -- Flagged places ---------------------------------------------------------------------------------------------------------------
 
@@ -42,7 +42,7 @@ unfolding flagged
 flagged-length w zero i = omega arith
 flagged-length w (suc n) i =
     let l = flagged-length w n (suc i) in
-    ⊎-elim (λ e. rw (flagged-yes w n i e) (omega (arith, l))) (λ e. rw (flagged-no w n i e) (omega (arith, l))) (bool (w i))
+    split (w i) (λ e. rw (flagged-yes w n i e) (omega (arith, l))) (λ e. rw (flagged-no w n i e) (omega (arith, l)))
 
 -- p is the first flagged place of w, and v is w with p taken away
 pub flagged-cons : (w v : ℕ → Bool) (n i p : ℕ) → i ≤ p → p < i + n → ((j : ℕ) → j < p → w j ≡ false) → w p ≡ true → v p ≡ false
@@ -50,12 +50,11 @@ pub flagged-cons : (w v : ℕ → Bool) (n i p : ℕ) → i ≤ p → p < i + n 
 unfolding flagged
 flagged-cons w v zero i p h l nw wp vp o = absurd (omega arith)
 flagged-cons w v (suc n) i p h l nw wp vp o =
-    ⊎-elim (λ e. let q = eqb-true i p e in
+    split (eqb i p) (λ e. let q = eqb-true i p e in
     rw (q, wp, vp) (ap {B = List ℕ} (λ r. p ∷ r) (flagged-same w v n (suc p) (λ j k l. sym (o j (omega arith))))))
     (λ e. let q = eqb-false i p e in
     let z = nw i (omega (arith, q)) in
     rw (z, o i q ∙ z) (flagged-cons w v n (suc i) p (omega (arith, q)) (omega arith) nw wp vp o))
-    (bool (eqb i p))
 
 -- Costs ------------------------------------------------------------------------------------------------------------------------
 
@@ -85,49 +84,25 @@ module _ {S : Type 0} (D : S → ℕ → ℕ) (E : S → ℕ) (after : ℕ → S
   put-total k p s t w v hp near at far end r o =
       let first : (j : ℕ) → j < p → w j ≡ false = λ j l. sym (o j (omega arith)) ∙ r j (omega arith) in
       let here : v p ≡ false = r p (omega arith) in
-      ⊎-elim
-      (λ (e : w p ≡ true). rw (flagged-cons w v 40 0 p (omega arith) (omega arith) first e here o, at) (omega arith))
-      (λ (e : w p ≡ false).
-      let alike : (j : ℕ) → w j ≡ v j = λ j.
-      ⊎-elim (λ (z : eqb j p ≡ true). let y = eqb-true j p z in ap w y ∙ e ∙ sym here ∙ ap v (sym y))
-      (λ (z : eqb j p ≡ false). sym (o j (eqb-false j p z)))
-      (bool (eqb j p)) in
+      split (w p)
+      (λ e. rw (flagged-cons w v 40 0 p (omega arith) (omega arith) first e here o, at) (omega arith))
+      (λ e.
+      let alike : (j : ℕ) → w j ≡ v j = λ j. by-equal j p (λ y. ap w y ∙ e ∙ sym here ∙ ap v (sym y)) (λ n. sym (o j n)) in
       rw (flagged-same w v 40 0 (λ j l k. alike j)) (shift (k + 1) s t far end (flagged v 40 0)))
-      (bool (w p))
 
 pub move-home : (q p : ℕ) (xs : List ℕ) → moveCost q p xs ≤ 1 + moveCost q 0 xs
 unfolding move
 move-home q p xs = shift dist (λ s. dist s q) next 1 p 0 (λ x. dist-step 0x0C p x refl) (dist-step 0x0C p q refl) xs
-
-pub next-up : (p : ℕ) → p < 39 → next p ≡ p + 1
-unfolding next
-next-up p h = rw (lt-ltb p 39 h)
-
--- d tabs
-along : (d p : ℕ) → p + d < 40 → dist p (p + d) ≤ d
-unfolding next move
-along zero p h = rw (add-zero p, dist-self p) (omega arith)
-along (suc d) p h =
-    let i : dist (next p) (p + suc d) ≤ d =
-    rw (next-up p (omega arith)) (subst (λ (k : ℕ). dist (p + 1) k ≤ d) (omega arith) (along d (p + 1) (omega arith))) in
-    omega (arith, dist-step 0x09 p (p + suc d) refl)
-
-pub dist-along : (p x : ℕ) → p ≤ x → x < 40 → dist p x + p ≤ x
-dist-along p x l h =
-    let e : p + (x - p) ≡ x = omega arith in
-    let i : dist p x ≤ x - p = subst (λ (k : ℕ). dist p k ≤ x - p) e (along (x - p) p (omega arith)) in
-    omega arith
 
 -- the cost from a place at or before i is at most 43 less that place
 pub move-bound : (q : ℕ) (w : ℕ → Bool) (n i p : ℕ) → i + n ≡ 40 → p ≤ i → moveCost q p (flagged w n i) + p ≤ 43
 unfolding flagged total
 move-bound q w zero i p e l = omega (arith, dist-most p q)
 move-bound q w (suc n) i p e l =
-    ⊎-elim
-    (λ (z : w i ≡ true). let b = move-bound q w n (suc i) (suc i) (omega arith) (omega arith) in
+    split (w i)
+    (λ z. let b = move-bound q w n (suc i) (suc i) (omega arith) (omega arith) in
     rw (flagged-yes w n i z) (omega (arith, dist-along p i l (omega arith), last q w n i (omega arith) b)))
-    (λ (z : w i ≡ false). rw (flagged-no w n i z) (move-bound q w n (suc i) p (omega arith) (omega arith)))
-    (bool (w i))
+    (λ z. rw (flagged-no w n i z) (move-bound q w n (suc i) p (omega arith) (omega arith)))
   where
     last : (q : ℕ) (w : ℕ → Bool) (n i : ℕ) → i + n ≡ 39 → moveCost q (suc i) (flagged w n (suc i)) + suc i ≤ 43
         → moveCost q (next i) (flagged w n (suc i)) + i ≤ 42
@@ -171,12 +146,10 @@ back-some false = omega arith
 pub switch-on : (e : Bool) (f h : ℕ) → length (switch e f h) ≤ 1 + length (switch e 1 h)
 unfolding switch
 switch-on e f h =
-    ⊎-elim (λ (z : eqb f h ≡ true). rw z (omega arith))
-    (λ (z : eqb f h ≡ false).
-    ⊎-elim (λ (y : eqb h 1 ≡ true). rw (z, y) (omega arith))
-    (λ (y : eqb h 1 ≡ false). rw (z, y, ne-eqb 1 h (λ i. eqb-false h 1 y (sym i))) (omega arith))
-    (bool (eqb h 1)))
-    (bool (eqb f h))
+    split (eqb f h) (λ z. rw z (omega arith))
+    (λ z.
+    split (eqb h 1) (λ y. rw (z, y) (omega arith))
+    (λ y. rw (z, y, ne-eqb 1 h (λ i. eqb-false h 1 y (sym i))) (omega arith)))
 
 -- the longest is 18h with what it takes
 pub switch-back : (e : Bool) (f h : ℕ) → length (switch e f h) ≤ backLength e + length (switch e 0 h)

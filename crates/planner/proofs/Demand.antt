@@ -1,13 +1,12 @@
 -- Demand 3 over what a byte does: the plan of a condition that can be planned from delivers the picture, in one font or in two.
 use mathlib.Core.Path.{_≡_, refl, sym, ap, _∙_}
-use mathlib.Core.Logic.{⊎-elim}
 use mathlib.Core.Bool.{Bool, true, false}
 use mathlib.Core.List.{List, _∷_, _++_}
 use Prim.Native.Nat.{ℕ, zero, suc, _+_, _≤_, _<_}
 use native.Mathlib.Omega.{arith}
 use lib.Dec.{eqb}
 use lib.ListN.{length, getD, replicate, length-replicate, getD-replicate}
-use Rattle.laws.proofs.Tests.{bool}
+use Rattle.laws.proofs.Tests.{split}
 use Rattle.condition.specs.declared.Condition.{Condition}
 use Rattle.condition.specs.Set.{withPending}
 use Rattle.condition.specs.Bytes.{isChar, runOf}
@@ -120,11 +119,10 @@ module _ (e : Bool) (ws : List ℕ) (font : ℕ → ℕ) (w : ℕ → Bool) (q f
   plain (suc n) i p h =
       let rest : (r : ℕ) → planOf ws q r (flagged w n (suc i)) ≡ fontsPlanOf e ws font q r f (flagged w n (suc i)) =
       λ r. plain n (suc i) r (λ j l. h j (omega arith)) in
-      ⊎-elim
-      (λ (y : w i ≡ true). rw (flagged-yes w n i y, h i (omega arith), switch-none e f)
+      split (w i)
+      (λ y. rw (flagged-yes w n i y, h i (omega arith), switch-none e f)
       (ap (λ (t : List ℕ). path p i ++ getD ws i 0 ∷ t) (rest (next i))))
-      (λ (y : w i ≡ false). rw (flagged-no w n i y) (rest p))
-      (bool (w i))
+      (λ y. rw (flagged-no w n i y) (rest p))
 
 pub plan-made : (c : Condition) (wanted : List ℕ) (asked : ℕ) → plan c wanted asked ≡ made (λ i. c .font) c wanted asked
 unfolding plan wrong wrongIn

@@ -9,7 +9,7 @@ use lib.Dec.{eqb, leb}
 use lib.ListN.{length, getD, set, length-set}
 use lib.Seq.{getD-set-same, getD-set-other, ext-getD}
 use borrow.Author.Tests.{eqb-true, eqb-false, eq-eqb, leb-true, le-leb, not-false}
-use Rattle.laws.proofs.Tests.{bool, clash, both}
+use Rattle.laws.proofs.Tests.{split, clash, both, by-equal}
 use Rattle.moves.specs.Moves.{any, next, moves, move, dist}
 use Rattle.moves.specs.Ways.{path, pathOf, firstByte}
 use Rattle.planner.proofs.Canvas.{Part, none, escape, place, back, Canvas, canvas, whole, wrongIn}
@@ -47,7 +47,7 @@ module _ (font : ℕ → ℕ) (ws cs fs : List ℕ) where
   wrong-other p b f j h = λ i. wrongCell (getD-set-other cs p j b 0 h i) (getD-set-other fs p j f 0 h i) (getD ws j 0) (font j)
 
 up : (P : ℕ → Type 0) (i : ℕ) → ((j : ℕ) → j < i → P j) → P i → (j : ℕ) → j < suc i → P j
-up P i h z j l = ⊎-elim (λ e. subst P (sym (eqb-true j i e)) z) (λ e. h j (omega (arith, eqb-false j i e))) (bool (eqb j i))
+up P i h z j l = by-equal j i (λ e. subst P (sym e) z) (λ n. h j (omega (arith, n)))
 
 -- bytes of a step that are counted already
 abbrev extra : Part → ℕ
@@ -218,7 +218,7 @@ module _ (switching mark : Bool) (chars : ℕ → Bool) (Ok : ℕ → Type 0) (f
           let here : v i ≡ false =
           wrong-same font ws cs fs i b (font i) (omega arith) (omega arith)
           ∙ rw (eq-eqb b b refl, eq-eqb (font i) (font i) refl) in
-          ⊎-elim
+          split (w i)
           (λ z. rw (flagged-yes w n i z, flagged-same w v n (suc i) (λ j m r. sym (alike j (omega arith))))
           (walk-paints (dist p i) p i lo f cs fs _ refl (omega arith)
           (switches f (font i) i lo cs fs _ k (fonts-ok i (omega arith))
@@ -227,7 +227,6 @@ module _ (switching mark : Bool) (chars : ℕ → Bool) (Ok : ℕ → Type 0) (f
           (length-set fs i (font i) ∙ lf) (omega arith) (omega arith)
           (up _ i (λ j m. alike j (omega arith) ∙ h j m) here))))))
           (λ z. rw (flagged-no w n i z) (deliver n (suc i) p lo f cs fs k lc lf (omega arith) (omega arith) (up _ i h z)))
-          (bool (w i))
 
 -- one font alone needs no switch
 pub stays : (switching mark : Bool) (chars : ℕ → Bool) (f : ℕ) (font : ℕ → ℕ) (ws : List ℕ) (q : ℕ)
@@ -250,22 +249,19 @@ module _ (mark : Bool) (chars : ℕ → Bool) (font : ℕ → ℕ) (ws : List �
       → Gets f p lo cs fs (cond mark (0x18 ∷ 0x1A ∷ []) (0x18 ∷ []) ++ t)
   unfolding stepAt allowed lowAt
   back-paints f p lo cs fs t z =
-      ⊎-elim
-      (λ (e : mark ≡ true).
+      split mark
+      (λ e.
       record { steps = rw (e, free18, free1A) (rw e at (z .steps)); final = rw (e, free18) (rw e at (z .final)) })
-      (λ (e : mark ≡ false). record { steps = rw (e, free18) (rw e at (z .steps)); final = rw (e, free18) (rw e at (z .final)) })
-      (bool mark)
+      (λ e. record { steps = rw (e, free18) (rw e at (z .steps)); final = rw (e, free18) (rw e at (z .final)) })
 
   pub switches-both : Switches true mark chars (λ h. h ≤ 1) font ws q
   unfolding switch
   switches-both f h p lo cs fs t lf lh z =
-      ⊎-elim (λ (e : eqb f h ≡ true). rw (e, eqb-true f h e) z)
-      (λ (e : eqb f h ≡ false).
-      ⊎-elim (λ (y : eqb h 1 ≡ true). rw (e, y) (on-paints f p lo cs fs t (rw (eqb-true h 1 y) at z)))
-      (λ (y : eqb h 1 ≡ false). let w : h ≡ 0 = omega (arith, eqb-false h 1 y) in
-      rw (e, y) (back-paints f p lo cs fs t (rw w at z)))
-      (bool (eqb h 1)))
-      (bool (eqb f h))
+      split (eqb f h) (λ e. rw (e, eqb-true f h e) z)
+      (λ e.
+      split (eqb h 1) (λ y. rw (e, y) (on-paints f p lo cs fs t (rw (eqb-true h 1 y) at z)))
+      (λ y. let w : h ≡ 0 = omega (arith, eqb-false h 1 y) in
+      rw (e, y) (back-paints f p lo cs fs t (rw w at z))))
 
 -- The picture ------------------------------------------------------------------------------------------------------------------
 

@@ -3,11 +3,12 @@ use mathlib.Core.Path.{_≡_, refl, sym, ap, _∙_}
 use mathlib.Core.Bool.{Bool, true, false}
 use mathlib.Core.List.{List, [], _∷_, _++_, append-assoc, append-nil}
 use Prim.Native.Nat.{ℕ, suc, _+_, _-_, _≤_, _<_}
-use native.Mathlib.Nat.{zero-add, add-zero}
+use native.Mathlib.Nat.{zero-add}
 use native.Mathlib.Numerals.{add-one}
 use native.Mathlib.Omega.{arith}
 use lib.ListN.{length, getD, set, take, drop, length-append, length-drop, drop-of-length-le}
 use lib.Seq.{sets, sets-eq, length-sets, take-all, take-append-seam, drop-drop}
+use Rattle.laws.proofs.Lists.{tail-part, sets-append}
 use Rattle.row.specs.Row.{laid}
 use Rattle.moves.specs.Moves.{next}
 use Rattle.moves.specs.Ways.{path}
@@ -17,11 +18,6 @@ use Rattle.moves.proofs.Moving.{next-below, path-most}
 use Rattle.planner.proofs.Canvas.{wrongIn}
 use Rattle.planner.proofs.Costs.{flagged-yes, flagged-no}
 
-pub sets-append : (l : List ℕ) (i : ℕ) (xs ys : List ℕ) → sets l i (xs ++ ys) ≡ sets (sets l i xs) (i + length xs) ys
-sets-append l i [] ys = ap (λ (k : ℕ). sets l k ys) (sym (add-zero i))
-sets-append l i (x ∷ xs) ys =
-    sets-append (set l i x) (suc i) xs ys ∙ ap (λ (k : ℕ). sets (sets (set l i x) (suc i) xs) k ys) (omega arith)
-
 -- bytes copied to the place k of a buffer that has room for them
 pub put-part : (out part : List ℕ) (k : ℕ) (bs : List ℕ) → k + length bs ≤ length out
     → part ≡ laid bs (take (length out - k) (drop k out))
@@ -29,10 +25,9 @@ pub put-part : (out part : List ℕ) (k : ℕ) (bs : List ℕ) → k + length bs
 unfolding laid
 put-part out part k bs h e =
     let d : length (drop k out) ≡ length out - k = length-drop k out in
-    let t : take (length out - k) (drop k out) ≡ drop k out = take-all (length out - k) (drop k out) (omega arith) in
     let all : take (length (drop k out)) bs ≡ bs = take-all (length (drop k out)) bs (omega arith) in
     let none : drop (length out - k) (drop k out) ≡ [] = drop-of-length-le (drop k out) {i = length out - k} (omega arith) in
-    rw (e, t, all, none, append-nil, drop-drop (length bs) k out)
+    rw (e, tail-part out k, all, none, append-nil, drop-drop (length bs) k out)
     (sym (sets-eq bs out k h ∙ append-assoc (take k out) bs _))
 
 -- the way between two places stands at the start of three bytes

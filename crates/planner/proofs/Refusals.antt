@@ -1,6 +1,5 @@
 -- What a refusal number says: 0 that the condition can be planned from, any other that nothing changes.
 use mathlib.Core.Path.{_≡_, refl, sym, ap, _∙_}
-use mathlib.Core.Logic.{⊎-elim}
 use mathlib.Core.Bool.{Bool, true, false, not, _&&_, _||_}
 use mathlib.Core.List.{List, [], _∷_}
 use Prim.Native.Nat.{ℕ, zero, suc, _≤_, _<_}
@@ -9,12 +8,13 @@ use lib.Dec.{eqb, ltb, leb}
 use lib.ListN.{length, getD, replicate}
 use lib.Seq.{take-append-seam}
 use borrow.Author.Tests.{eqb-true, ne-eqb, ltb-false, leb-true, le-leb, not-false}
-use Rattle.laws.proofs.Tests.{bool, clash, both, neither, passed}
+use Rattle.laws.proofs.Tests.{split, clash, both, neither, passed}
 use Rattle.users.specs.declared.Users.{Users}
 use Rattle.users.specs.Users.{isUser}
 use Rattle.condition.specs.declared.Condition.{Condition}
 use Rattle.condition.specs.Condition.{idle, wellFormed, allUpTo}
 use Rattle.condition.specs.Bytes.{isChar}
+use Rattle.condition.proofs.Characters.{no-char}
 use Rattle.condition.proofs.Good.{good}
 use Rattle.condition.proofs.Ranges.{up-to-at}
 use Rattle.moves.specs.Moves.{any, moves}
@@ -97,12 +97,10 @@ escape-free c f = rw (f .at1B)
 shows : (c : Condition) (w : ℕ) → lacks (c .users) w ≡ false → isChar c w ≡ true
 unfolding lacks isChar
 shows c w e =
-    ⊎-elim (λ (h : isUser (c .users) w ≡ true). rw h)
-    (λ (h : isUser (c .users) w ≡ false).
-    ⊎-elim (λ (l : ltb w 0x20 ≡ true). clash refl (rw (l, h) at e))
-    (λ (l : ltb w 0x20 ≡ false). rw (h, le-leb 0x20 w (ltb-false w 0x20 l)))
-    (bool (ltb w 0x20)))
-    (bool (isUser (c .users) w))
+    split (isUser (c .users) w) (λ h. rw h)
+    (λ h.
+    split (ltb w 0x20) (λ l. clash refl (rw (l, h) at e))
+    (λ l. rw (h, le-leb 0x20 w (ltb-false w 0x20 l))))
 
 all-show : (c : Condition) (ws : List ℕ) → someLacks (c .users) ws ≡ false → (i : ℕ) → i < length ws → isChar c (getD ws i 0) ≡ true
 unfolding someLacks
@@ -150,10 +148,6 @@ accepted c wanted asked room e =
     (accepted-by _ _ _ _ c wanted asked k (eqb-true _ _ (k .lengths)) (k .in-range) (k .unblocked), ltb-false room 44 (k .room))
 
 -- for two fonts: 18h, 19h and 1Ah are steps, and the fonts are 0 or 1
-no-char : (c : Condition) (b : ℕ) → leb 0x20 b ≡ false → isUser (c .users) b ≡ false → isChar c b ≡ false
-unfolding isChar
-no-char c b l u = rw (u, l)
-
 pub record FontsAccepted (c : Condition) (wanted fonts : List ℕ) (asked : ℕ) : Type 0 where
   pub codes : Accepted c wanted asked
   pub switchable : Switchable c fonts
@@ -176,9 +170,9 @@ fonts-accepted c wanted fonts asked room e =
           wanted-fonts-40 = m;
           wanted-fonts-1 = up-to-at 1 fonts (both (leb asked 39) _ (k .in-range) .1);
           selected-1 = good c (k .formed) .font-1;
-          free18 = no-char c 0x18 refl (n1 .0);
-          free19 = no-char c 0x19 refl (n1 .1);
-          free1A = no-char c 0x1A refl (n2 .1);
+          free18 = no-char c 0x18 (n1 .0) (omega arith);
+          free19 = no-char c 0x19 (n1 .1) (omega arith);
+          free1A = no-char c 0x1A (n2 .1) (omega arith);
         };
         fonts-40 = m;
       },

@@ -7,7 +7,7 @@ use native.Mathlib.Numerals.{add-one}
 use native.Mathlib.Omega.{arith}
 use lib.Dec.{eqb, leb}
 use borrow.Author.Tests.{eqb-true, eq-eqb, leb-true, not-true}
-use Rattle.laws.proofs.Tests.{clash, both}
+use Rattle.laws.proofs.Tests.{clash, both, and-same}
 use Rattle.users.specs.Users.{isUser}
 use Rattle.condition.specs.declared.Condition.{Condition}
 use Rattle.condition.specs.declared.Pending.{Pending}
@@ -19,7 +19,8 @@ use Rattle.condition.specs.Bytes.{isChar, controlOf, escapeOf, stepOf, runOf}
 use Rattle.condition.specs.Steps.{stepByte, lowAfter, inOrder, readingOrder}
 use Rattle.moves.specs.Moves.{any, moves}
 use Rattle.moves.proofs.Moving.{next-below, move-below}
-use Rattle.moves.proofs.Interpreter.{Ready, no-user, moves-to, escapes, writes, placed, is-move}
+use Rattle.condition.proofs.Characters.{no-user}
+use Rattle.moves.proofs.Interpreter.{Ready, moves-to, escapes, writes, placed, is-move}
 use Rattle.planner.specs.Fonts.{owed, fontByte, inFontOrder, fontOrder}
 use Rattle.planner.proofs.Canvas.{Part, none, escape, place, back, Canvas, canvas, whole}
 use Rattle.planner.proofs.Canvas.{stepAt, step, run, allowed, lowAt, ordered, by-kind}
@@ -179,10 +180,6 @@ module _ (switching : Bool) (c : Condition) (r : Ready c) where
         ap (λ (l : ℕ). In (stepOf (stands c k p f cs fs) b) l bs) (next-low k p lo f cs fs b a)
         ∙ ap (λ (d : Condition). In d (low k p lo b) bs) (same k p lo f cs fs b h m a)
         ∙ orders bs (g .part) (g .cursor) (low k p lo b) (g .font) (g .codes) (g .fonts) (n .0) (n .1))
-      where
-        and-same : (t : Bool) {x y : Bool} → (t ≡ true → x ≡ y) → (t && x) ≡ (t && y)
-        and-same true f = f refl
-        and-same false f = refl
 
     orders-from : (bs : List ℕ) → In c 0 bs ≡ orderedFrom switching c bs
     orders-from bs =

@@ -1,6 +1,7 @@
 // The bytes of a plan.
 use crate::ways::put_way;
 use condition::Condition;
+use moves::Distances;
 ghost use mathlib.Core.Path.{_≡_};
 ghost use mathlib.Core.List.{[], _∷_, _++_};
 ghost use Prim.Native.Nat.{_+_, _<_, _≤_};
@@ -10,10 +11,11 @@ ghost use Rattle.moves.specs.Moves.{Numbers};
 ghost use Rattle.planner.specs.Plan.{atStart};
 ghost use Rattle.planner.specs.Fonts.{wrongCell, switch, fontsPlan};
 
-fn differs(code: u8, font: u8, code1: u8, font1: u8) -> bool
-    ensures { λ r. ⌜ r ≡ wrongCell code font code1 font1 ⌝ }
+// A cell has another code or another font than the wanted one.
+fn differs(code: u8, font: u8, wanted: u8, face: u8) -> bool
+    ensures { λ r. ⌜ r ≡ wrongCell code font wanted face ⌝ }
 {
-    !((code == code1) & (font == font1))
+    !((code == wanted) & (font == face))
 }
 
 // Puts the switch from a font to another at k; answers the place behind it.
@@ -50,7 +52,7 @@ fn put_code(out: &mut [u8], k: usize, euro: bool, from: u8, to: u8, code: u8) ->
 
 // Puts the plan for the wanted codes in the wanted fonts at the start of out; answers its length.
 pub(crate) fn put_plan(
-    table: &[[u8; 40]; 40],
+    table: &Distances,
     c: Condition,
     wanted: &[u8],
     fonts: &[u8],
@@ -69,7 +71,7 @@ pub(crate) fn put_plan(
     let mut selected = c.font;
     let mut k: usize = 0;
     let mut i: u8 = 0;
-    while i < 40 {
+    while i <= Condition::LAST_PLACE {
         let j = i as usize;
         let code = wanted[j];
         let font = fonts[j];

@@ -5,8 +5,8 @@ ghost use mathlib.Core.Bool.{cond};
 ghost use Rattle.users.specs.Users.{isUser, usersIn};
 ghost use Rattle.planner.specs.Answer.{onMove, onSwitch, lacks, someLacks, refusalBy, planRefusal, fontsRefusal};
 
-// The last place of the cursor.
-const LAST: u32 = 39;
+// The last place, as wide as what is asked.
+const LAST: u32 = Condition::LAST_PLACE as u32;
 
 fn is_user(bytes: &[u8], count: u8, code: u8) -> bool
     ensures { λ r. ⌜ r ≡ isUser (usersIn (now (bytes .entry)) count) code ⌝ }

@@ -1,5 +1,6 @@
 // The way from a place to another: the fewest move bytes, of equals the smallest by first differing byte.
 use condition::Condition;
+use moves::Distances;
 ghost use mathlib.Core.Path.{_≡_};
 ghost use Prim.Native.Nat.{_+_, _<_, _≤_};
 ghost use lib.ListN.{length};
@@ -8,7 +9,7 @@ ghost use Rattle.row.specs.Row.{lineStart};
 ghost use Rattle.moves.specs.Moves.{left, down, move, dist, Numbers};
 ghost use Rattle.moves.specs.Ways.{leaves, firstByte, path};
 
-fn number(table: &[[u8; 40]; 40], from: u8, to: u8) -> u8
+fn number(table: &Distances, from: u8, to: u8) -> u8
     requires { ⌜ (from < 40) × (to < 40) × Numbers (now table) ⌝ }
     ensures { λ r. ⌜ r ≡ dist from to ⌝ }
 {
@@ -59,7 +60,7 @@ fn go(m: u8, p: u8) -> u8
     }
 }
 
-fn leads(table: &[[u8; 40]; 40], m: u8, n: u8, from: u8, to: u8) -> bool
+fn leads(table: &Distances, m: u8, n: u8, from: u8, to: u8) -> bool
     requires { ⌜ (from < 40) × (to < 40) × Numbers (now table) ⌝ }
     ensures { λ r. ⌜ r ≡ leaves n from to m ⌝ }
 {
@@ -68,7 +69,7 @@ fn leads(table: &[[u8; 40]; 40], m: u8, n: u8, from: u8, to: u8) -> bool
 }
 
 // The smallest byte that leaves n bytes to go.
-fn first_byte(table: &[[u8; 40]; 40], n: u8, from: u8, to: u8) -> u8
+fn first_byte(table: &Distances, n: u8, from: u8, to: u8) -> u8
     requires { ⌜ (from < 40) × (to < 40) × Numbers (now table) ⌝ }
     ensures { λ r. ⌜ r ≡ firstByte n from to ⌝ }
 {
@@ -91,7 +92,7 @@ fn first_byte(table: &[[u8; 40]; 40], n: u8, from: u8, to: u8) -> u8
 }
 
 // Lays the way at the start of three bytes; answers its length.
-fn lay_way(table: &[[u8; 40]; 40], from: u8, to: u8, out: &mut [u8]) -> u8
+fn lay_way(table: &Distances, from: u8, to: u8, out: &mut [u8]) -> u8
     requires { ⌜ (from < 40) × (to < 40) × Numbers (now table) × (length (now out) ≡ 3) ⌝ }
     ensures { λ r. ⌜ (r ≡ length (path from to)) × (now (out .exit) ≡ sets (now (out .entry)) 0 (path from to)) ⌝ }
 {
@@ -115,7 +116,7 @@ fn lay_way(table: &[[u8; 40]; 40], from: u8, to: u8, out: &mut [u8]) -> u8
 }
 
 // Puts the way from p to q at k; answers the place behind it.
-pub(crate) fn put_way(table: &[[u8; 40]; 40], out: &mut [u8], k: usize, p: u8, q: u8) -> usize
+pub(crate) fn put_way(table: &Distances, out: &mut [u8], k: usize, p: u8, q: u8) -> usize
     requires { ⌜ (p < 40) × (q < 40) × (k + length (path p q) ≤ length (now out)) × Numbers (now table) ⌝ }
     ensures { λ r. ⌜ (r ≡ k + length (path p q)) × (now (out .exit) ≡ sets (now (out .entry)) k (path p q)) ⌝ }
 {

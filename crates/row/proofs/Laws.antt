@@ -1,16 +1,18 @@
 -- What a pull, a fill and a copy make of the places, turn by turn and in the end.
 use Prim.Native.Nat.{ℕ, suc, _+_, _-_, _≤_, _<_, min}
-use mathlib.Core.Path.{_≡_, refl, ap, sym, _∙_}
-use mathlib.Core.List.{List, _++_, append-assoc, append-nil}
+use native.Mathlib.Nat.{zero-min, min-zero, suc-min-suc}
+use mathlib.Core.Path.{_≡_, ap, sym, _∙_}
+use mathlib.Core.List.{List, [], _∷_, _++_, append-assoc, append-nil}
 use native.Mathlib.Omega.{arith}
 use native.Mathlib.Numerals.{add-one}
-use lib.ListN.{length, getD, take, drop, set, replicate, length-drop, replicate-append-replicate, drop-of-length-le}
+use lib.ListN.{length, getD, take, drop, set, replicate, length-append, length-take, length-drop, length-replicate}
+use lib.ListN.{replicate-append-replicate, drop-of-length-le}
 use lib.Seq.{paste, paste-suc, drop-paste, getD-drop, take-all, drop-cons, set-at, length-paste-head, take-suc-set, take-paste}
-use lib.Seq.{take-suc, drop-length, append-snoc, length-take-le}
-use mathlib.Core.Bool.{Bool, true, false}
-use lib.Dec.{leb}
+use lib.Seq.{take-suc, take-nil, drop-nil, drop-length, append-snoc, length-take-le}
+use lib.Dec.{leb, ltb}
 use borrow.Author.Tests.{leb-true, leb-false, eq-eqb}
-use Rattle.row.specs.Row.{scrolled, shifted, onPicture, advanced, laid}
+use Rattle.laws.proofs.Tests.{split, by-test}
+use Rattle.row.specs.Row.{lineStart, scrolled, shifted, onPicture, advanced, laid}
 
 -- a turn of a loop that pastes
 pub paste-turn : (d s out : List ℕ) (to from i : ℕ) → out ≡ paste d to (drop from s) i → to + i < length d → from + i < length s
@@ -53,10 +55,12 @@ fill-done d out from i v h k e =
     let n : i ≡ length d = omega arith in
     rw (← n) (sym (take-all i out l) ∙ e)
 
+-- Whole rows ------------------------------------------------------------------------------------------------------------------
+
 -- on a picture a rule for pictures holds
-pub pictured : (f : List ℕ → List ℕ) (a : List ℕ) → length a ≡ 40 → onPicture f a ≡ f a
+pub on-picture : (f : List ℕ → List ℕ) (a : List ℕ) → length a ≡ 40 → onPicture f a ≡ f a
 unfolding onPicture
-pictured f a h = rw (eq-eqb (length a) 40 h)
+on-picture f a h = rw (eq-eqb (length a) 40 h)
 
 pub scroll-law : (a out : List ℕ) (v : ℕ) → length a ≡ 40 → length out ≡ 40 → out ≡ paste a 0 (drop 20 a) 20
     → take 20 out ++ replicate (length out - 20) v ≡ scrolled v a
@@ -95,19 +99,18 @@ advance-short a by h =
     let z : length a - by ≡ 0 = omega arith in
     rw (drop-of-length-le a l, z)
 
+-- Laid over the start of a row --------------------------------------------------------------------------------------------------
+
 pub laid-law : (d s : List ℕ) (n : ℕ) → n ≡ min (length d) (length s) → take n s ++ drop n d ≡ laid s d
 unfolding laid
-laid-law d s n e = go (leb (length d) (length s)) refl
-  where
-    go : (t : Bool) → leb (length d) (length s) ≡ t → take n s ++ drop n d ≡ take (length d) s ++ drop (length s) d
-    go true h =
-        let l : length d ≤ length s = leb-true (length d) (length s) h in
-        let k : n ≡ length d = omega arith in
-        rw (k, drop-length d, drop-of-length-le d l)
-    go false h =
-        let l : length s ≤ length d = omega (arith, leb-false (length d) (length s) h) in
-        let k : n ≡ length s = omega arith in
-        rw (k, take-all (length d) s l, take-all (length s) s (omega arith))
+laid-law d s n e =
+    split (leb (length d) (length s))
+    (λ h. let l : length d ≤ length s = leb-true (length d) (length s) h in
+    let k : n ≡ length d = omega arith in
+    rw (k, drop-length d, drop-of-length-le d l))
+    (λ h. let l : length s ≤ length d = omega (arith, leb-false (length d) (length s) h) in
+    let k : n ≡ length s = omega arith in
+    rw (k, take-all (length d) s l, take-all (length s) s (omega arith)))
 
 -- as many bytes as there is room for
 pub filled : (q d : List ℕ) (n : ℕ) → length q ≡ n → length d ≡ n → laid q d ≡ q
@@ -116,3 +119,38 @@ filled q d n hq hd =
     let a : length q ≤ length d = omega arith in
     let b : length d ≤ length q = omega arith in
     rw (take-all (length d) q a, drop-of-length-le d b) (append-nil q)
+
+-- over no place nothing is laid, and of nothing no place changes
+pub laid-none : (x : List ℕ) → laid x [] ≡ []
+unfolding laid
+laid-none x = drop-nil (length x)
+
+pub laid-empty : (s : List ℕ) → laid [] s ≡ s
+unfolding laid
+laid-empty s = rw (take-nil {A = ℕ} (length s))
+
+-- x over the start of a row, and then y after it
+pub laid-both : (x y s : List ℕ)
+    → take (min (length x) (length s)) (laid x s) ++ laid y (drop (min (length x) (length s)) (laid x s)) ≡ laid (x ++ y) s
+unfolding laid
+laid-both [] y s = rw (zero-min (length s), take-nil {A = ℕ} (length s))
+laid-both (b ∷ x) y [] = rw (min-zero (suc (length x)), drop-nil {A = ℕ} (length y))
+laid-both (b ∷ x) y (z ∷ s) = rw (suc-min-suc (length x) (length s)) (ap (λ (l : List ℕ). b ∷ l) (laid-both x y s))
+
+-- Sizes --------------------------------------------------------------------------------------------------------------------------
+
+pub line-start-20 : (at : ℕ) → lineStart at ≤ 20
+unfolding lineStart
+line-start-20 at = by-test (λ (n : ℕ). n ≤ 20) (ltb at 20) (λ _. omega arith) (λ _. omega arith)
+
+pub scrolled-40 : (v : ℕ) (a : List ℕ) → length a ≡ 40 → length (scrolled v a) ≡ 40
+unfolding scrolled
+scrolled-40 v a h = simp (length-append, length-drop, length-replicate) (omega arith)
+
+pub shifted-40 : (start v : ℕ) (a : List ℕ) → start ≤ 20 → length a ≡ 40 → length (shifted start v a) ≡ 40
+unfolding shifted
+shifted-40 start v a l h = simp (length-append, length-take, length-drop) (omega arith)
+
+pub advanced-length : (by : ℕ) (a : List ℕ) → by ≤ length a → length (advanced by a) ≡ length a
+unfolding advanced
+advanced-length by a h = simp (length-append, length-drop) (omega arith)

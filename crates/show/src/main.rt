@@ -13,7 +13,7 @@ fn separator(i: usize, n: usize) -> u8
     requires { ⌜ i < n ⌝ }
     ensures { λ r. ⌜ r ≡ separatorOf i n ⌝ }
 {
-    if n - i == 1 { 0x0A } else { 0x20 }
+    if n - i == 1 { b'\n' } else { b' ' }
 }
 
 // The codes in hex with one space between come at k, and a new line.

@@ -1,18 +1,18 @@
 -- What the host's calls leave, by where they stop.
-use mathlib.Core.Path.{_≡_, refl, sym, ap, _∙_, subst}
-use mathlib.Core.Bool.{Bool, true, false, cond}
+use mathlib.Core.Path.{_≡_, sym, ap, _∙_, subst}
+use mathlib.Core.Bool.{Bool, true, false}
 use mathlib.Core.List.{List}
 use Prim.Native.Nat.{ℕ, _+_, _<_}
 use native.Mathlib.Omega.{arith}
 use lib.Dec.{eqb, leb}
 use lib.ListN.{length, take}
 use borrow.Author.Tests.{eq-eqb, ne-eqb, leb-true}
-use Rattle.laws.proofs.Tests.{by-equal}
+use Rattle.laws.proofs.Tests.{split, by-equal}
 use Rattle.condition.specs.declared.Condition.{Condition}
 use Rattle.condition.specs.declared.Outcome.{Outcome}
 use Rattle.condition.specs.Condition.{wellFormed, powerUp, powerUpAnswer}
-use Rattle.condition.proofs.Good.{Sized, run-sized}
-use Rattle.condition.proofs.Kept.{power-up-good}
+use Rattle.condition.proofs.Good.{Sized}
+use Rattle.condition.proofs.Kept.{power-up-good, powered, unpowered}
 use Rattle.layout.specs.Layout.{conditionIn}
 use Rattle.layout.proofs.PackedBack.{sized-in}
 use Rattle.block.specs.Block.{blockOf, putOver}
@@ -26,8 +26,8 @@ use Rattle.block.proofs.Damaged.{whole-length}
 use Rattle.block.proofs.RoundTrip.{refusal-of, reread}
 use Rattle.interpreter.specs.declared.Tally.{Tally}
 use Rattle.interpreter.specs.declared.Ran.{Ran}
-use Rattle.interpreter.specs.Run.{RunPromise, acceptedOf, refusedOf, runRefusal, runAnswer}
-use Rattle.interpreter.proofs.Answers.{run-unformed}
+use Rattle.interpreter.specs.Run.{RunPromise, runAnswer}
+use Rattle.interpreter.proofs.Answers.{run-unformed, ran-sized}
 use Rattle.planner.specs.declared.Planned.{Planned}
 use Rattle.planner.specs.Answer.{bytesBy, Promise, Plans, PlansFonts}
 use Rattle.host.specs.declared.Base.the-variants.{Plan}
@@ -37,15 +37,6 @@ use Rattle.sign.specs.Calls.{tallyAt, tallyBytes, ranOf, hostRunRefusal,
 use Rattle.sign.specs.Calls.{HostRun, HostPromise, hostPowerUpRefusal, hostPowerUpOut, HostPowerUp}
 
 -- ---- the run
-
--- a run keeps the arrays' lengths
-ran-sized : (c : Condition) (t : Tally) (bs : List ℕ) → Sized c → Sized (runAnswer c t bs .condition)
-unfolding runAnswer
-ran-sized c t bs s = go (eqb (runRefusal c t bs) 0)
-  where
-    go : (k : Bool) → Sized (cond k (acceptedOf c t bs) (refusedOf (runRefusal c t bs) c t) .condition)
-    go true = run-sized c bs s
-    go false = s
 
 pub run-short : (b t bs : List ℕ) → (length t ≡ 12 → ⊥) → HostRun b t bs 1 b t
 unfolding hostRefusalBy hostRunRefusal blockAfter tallyAfter
@@ -158,24 +149,13 @@ module _ (b : List ℕ) (c : Condition) (e : c ≡ conditionIn b) where
 
 -- ---- power-up
 
-powered : (font : ℕ) → leb font 1 ≡ true → powerUpAnswer font ≡ record { refusal = 0; condition = powerUp font }
-unfolding powerUpAnswer
-powered font h = rw h
-
-unpowered : (font : ℕ) → leb font 1 ≡ false → powerUpAnswer font ≡ record { refusal = 3; condition = powerUp 0 }
-unfolding powerUpAnswer
-unpowered font h = rw h
-
 pub power-up-refused : (font : ℕ) (out : List ℕ) (g : Outcome) → g ≡ powerUpAnswer font → (g .refusal ≡ 0 → ⊥)
     → HostPowerUp font out (g .refusal) out
 unfolding hostPowerUpRefusal hostPowerUpOut
-power-up-refused font out g e bad = go (leb font 1) refl
-  where
-    go : (t : Bool) → leb font 1 ≡ t → HostPowerUp font out (g .refusal) out
-    go true h = absurd (bad (ap (λ (o : Outcome). o .refusal) (e ∙ powered font h)))
-    go false h =
-        let three = ap (λ (o : Outcome). o .refusal) (e ∙ unpowered font h) in
-        record { answer = simp h three; buffer = simp h; again = λ z. absurd (bad z) }
+power-up-refused font out g e bad =
+    split (leb font 1) (λ h. absurd (bad (ap (λ (o : Outcome). o .refusal) (e ∙ powered font h))))
+    (λ h. let three = ap (λ (o : Outcome). o .refusal) (e ∙ unpowered font h) in
+    record { answer = simp h three; buffer = simp h; again = λ z. absurd (bad z) })
 
 -- what writing power-up gives, where the font is 0 or 1
 power-up-out : (font : ℕ) (out : List ℕ) (r : Written) (left : List ℕ) → leb font 1 ≡ true → WritePromise (powerUp font) out r left
@@ -191,14 +171,10 @@ power-up-out font out r left h w =
 
 pub power-up-written : (font : ℕ) (out : List ℕ) (g : Outcome) (r : Written) (left : List ℕ) → g ≡ powerUpAnswer font
     → g .refusal ≡ 0 → WritePromise (g .condition) out r left → HostPowerUp font out (r .refusal) left
-power-up-written font out g r left e good w = go (leb font 1) refl
-  where
-    go : (t : Bool) → leb font 1 ≡ t → HostPowerUp font out (r .refusal) left
-    go true h = power-up-out font out r left h (rw (ap (λ (o : Outcome). o .condition) (e ∙ powered font h)) at w)
-    go false h =
-        let three : g .refusal ≡ 3 = ap (λ (o : Outcome). o .refusal) (e ∙ unpowered font h) in
-        let z : ⊥ = omega arith in
-        absurd z
+power-up-written font out g r left e good w =
+    split (leb font 1)
+    (λ h. power-up-out font out r left h (rw (ap (λ (o : Outcome). o .condition) (e ∙ powered font h)) at w))
+    (λ h. let three : g .refusal ≡ 3 = ap (λ (o : Outcome). o .refusal) (e ∙ unpowered font h) in absurd (omega arith))
 
 -- ---- any two allowed answers are equal
 

@@ -9,7 +9,7 @@ use Rattle.glass.specs.Answers.{viewAnswer, dotAnswer, underlineAnswer, litAnsw
 use Rattle.interpreter.specs.declared.Ran.{Ran}
 use Rattle.lines.specs.Lines.{each}
 use Rattle.lines.proofs.Laws.{each-length, decimal-length, print-length}
-use Rattle.tell.specs.Report.{showsText, cellLine, dotText, userLine, placeLine, reportOf, toldOf}
+use Rattle.tell.specs.Report.{showsText, cellLine, dotText, userLine, userAt, reportOf, toldOf}
 
 shows-length : (s : Shows) → length (showsText s) ≤ 34
 unfolding showsText
@@ -34,9 +34,9 @@ user-length c code =
     simp length-append (omega (arith, dots-length c code))
 
 pub told-length : (r : Ran) → length (toldOf r) ≤ 16384
-unfolding reportOf placeLine
+unfolding reportOf userAt
 told-length r =
     let c = r .condition in
     let cells = each-length (cellLine c) 60 40 (cell-length c) in
-    let users = each-length (placeLine c) 765 (min (c .users .count) 16) (λ i. user-length c _) in
-    omega (arith, print-length (reportOf c) r, length-append (each (cellLine c) 40) (each (placeLine c) (min (c .users .count) 16)))
+    let users = each-length (userAt c) 765 (min (c .users .count) 16) (λ i. user-length c _) in
+    omega (arith, print-length (reportOf c) r, length-append (each (cellLine c) 40) (each (userAt c) (min (c .users .count) 16)))

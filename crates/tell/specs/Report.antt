@@ -32,12 +32,12 @@ userLine c code =
     ++ (numbered (text " lit ") (litAnswer c code .value) ++ newLine))))
 
 -- the user character at a place, counted from the oldest
-unfoldable pub placeLine : Condition → ℕ → List ℕ
-placeLine c i = userLine c (getD (c .users .bytes) (i * 6) 0)
+unfoldable pub userAt : Condition → ℕ → List ℕ
+userAt c i = userLine c (getD (c .users .bytes) (i * 6) 0)
 
 -- the 40 cells in order, then the user characters held, the oldest first
 unfoldable pub reportOf : Condition → List ℕ
-reportOf c = each (cellLine c) 40 ++ each (placeLine c) (min (c .users .count) 16)
+reportOf c = each (cellLine c) 40 ++ each (userAt c) (min (c .users .count) 16)
 
 -- what is printed of a run: its report, then the tally; or `refused N` alone
 abbrev pub toldOf : Ran → List ℕ

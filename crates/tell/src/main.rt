@@ -5,11 +5,15 @@ ghost use Prim.Native.Nat.{_≤_, min};
 ghost use lib.ListN.{length, take};
 ghost use Rattle.interpreter.specs.Run.{RunPromise};
 ghost use Rattle.lines.specs.Lines.{Added, each, runFromStart};
-ghost use Rattle.tell.specs.Report.{showsText, cellLine, dotText, userLine, placeLine, toldOf};
+ghost use Rattle.tell.specs.Report.{showsText, cellLine, dotText, userLine, userAt, toldOf};
 use condition::Condition;
 use glass::Shows;
 use interpreter::Ran;
 use interpreter::Tally;
+use users::Users;
+
+// How many cells there are, as wide as a place in a question.
+const CELLS: u32 = Condition::CELLS as u32;
 
 // A run with the tally lent. Its answer has the tally as the run left it there.
 fn ran(c: Condition, mut t: Tally, bytes: &[u8]) -> Ran
@@ -50,7 +54,7 @@ fn add_cells(out: &mut [u8], k: usize, c: Condition) -> usize
 {
     let mut at = k;
     let mut p: u32 = 0;
-    while p < 40 {
+    while p < CELLS {
         at = add_cell(out, at, c, p);
         p += 1;
     }
@@ -97,7 +101,7 @@ fn held(count: u8) -> usize
 }
 
 fn add_users(out: &mut [u8], k: usize, c: Condition) -> usize
-    ensures { λ r. ⌜ Added (now (out .entry)) k (each (placeLine c) (min (c .users .count) 16)) (now (out .exit)) r ⌝ }
+    ensures { λ r. ⌜ Added (now (out .entry)) k (each (userAt c) (min (c .users .count) 16)) (now (out .exit)) r ⌝ }
 {
     let u = c.users;
     let bytes = u.bytes;
@@ -105,7 +109,7 @@ fn add_users(out: &mut [u8], k: usize, c: Condition) -> usize
     let mut at = k;
     let mut i: usize = 0;
     while i < n {
-        at = add_user(out, at, c, bytes[i * 6]);
+        at = add_user(out, at, c, bytes[i * Users::PLACE]);
         i += 1;
     }
     at

@@ -5,12 +5,13 @@ use mathlib.Core.List.{List}
 use mathlib.Core.Bool.{false}
 use native.Mathlib.Omega.{arith}
 use native.Mathlib.Nat.{add-zero}
-use lib.ListN.{length, getD, drop, length-append, length-drop, length-set, List·getD-append, List·getD-eq-default}
+use lib.ListN.{length, getD, drop, length-drop, length-set, List·getD-append, List·getD-eq-default}
 use lib.Seq.{getD-set-same, getD-set-other, lt-length-set, getD-drop}
 use lib.Dec.{eqb, ltb}
 use borrow.Author.Tests.{eqb-true, eqb-false, ltb-true, ltb-false}
 use Rattle.laws.proofs.Tests.{by-test, by-equal}
 use Rattle.row.specs.Row.{advanced}
+use Rattle.row.proofs.Laws.{advanced-length}
 use Rattle.users.specs.declared.Users.{Users}
 use Rattle.users.specs.declared.Found.{Found}
 use Rattle.users.specs.declared.Found.the-variants.{Missing, At}
@@ -22,10 +23,6 @@ use Rattle.users.proofs.Laws.{place-below}
 pub put-length : (us : List ℕ) (at code : ℕ) (held : List ℕ) (last : ℕ) → length (putOf us at code held last) ≡ length us
 unfolding putOf
 put-length us at code held last = simp length-set
-
-pub advanced-length : (by : ℕ) (a : List ℕ) → by ≤ length a → length (advanced by a) ≡ length a
-unfolding advanced
-advanced-length by a h = simp (length-append, length-drop) (omega arith)
 
 defined-96 : (f : Found) (u : Users) (code : ℕ) (held : List ℕ) (last : ℕ)
     → length (u .bytes) ≡ 96 → length (definedAt f u code held last .bytes) ≡ 96

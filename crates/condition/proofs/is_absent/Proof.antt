@@ -4,7 +4,7 @@ use native.Mathlib.Omega.{arith}
 use lib.ListN.{length, drop}
 use borrow.Author.Tests.{eq-eqb, ne-eqb}
 use Rattle.condition.specs.Condition.{absent}
-use Rattle.condition.proofs.Places.{absent-step}
+use Rattle.condition.proofs.Rows.{absent-step}
 use Rattle.condition.proofs.is_absent.Statement.{statement}
 use Rattle.condition.proofs.is_absent.Tie as tie
 

@@ -1,7 +1,7 @@
 use mathlib.Core.Path.{_∙_}
 use Prim.Native.Nat.{_<_}
 use borrow.Author.Tests.{lt-leb}
-use Rattle.condition.proofs.Places.{held-good}
+use Rattle.condition.proofs.Rows.{held-good}
 use Rattle.condition.specs.Condition.{pendingGood, heldOf}
 use borrow.Author.Needs.{needs}
 use Rattle.condition.proofs.pending_good.Statement.{statement}

@@ -6,7 +6,7 @@ use lib.ListN.{length, getD, drop, length-drop}
 use borrow.Author.Tests.{lt-ltb, le-ltb, not-true, not-false}
 use Rattle.laws.proofs.Lists.{tail-part}
 use Rattle.condition.specs.Condition.{absent, usersGood, allUpTo}
-use Rattle.condition.proofs.Places.{users-step}
+use Rattle.condition.proofs.Rows.{users-step}
 use Rattle.condition.proofs.users_good.Statement.{statement}
 use Rattle.condition.proofs.users_good.Tie as tie
 

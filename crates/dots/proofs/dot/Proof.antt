@@ -1,14 +1,15 @@
 use mathlib.Core.Logic.{inl, inr}
+use native.Mathlib.Omega.{arith}
 use Rattle.dots.proofs.Laws.{no-dot, dot-law}
 use borrow.Author.Needs.{needs}
 use Rattle.dots.proofs.dot.Statement.{statement}
 use Rattle.dots.proofs.dot.Tie as tie
 
 returns : tie.Need-returns
-returns c = no-dot _ _ (inl (c .if1 .taken))
+returns c = no-dot _ _ (inl (omega (arith, c .if1 .taken)))
 
 returns-2 : tie.Need-returns-2
-returns-2 c = no-dot _ _ (inr (c .if2 .taken))
+returns-2 c = no-dot _ _ (inr (omega (arith, c .if2 .taken)))
 
 byte-requires : tie.Need-byte-requires
 byte-requires c κs = search needs

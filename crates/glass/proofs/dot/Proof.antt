@@ -1,4 +1,5 @@
 use Rattle.glass.specs.Answers.{dotAnswer}
+use native.Mathlib.Omega.{arith}
 use borrow.Author.Tests.{le-leb, lt-leb}
 use borrow.Author.Needs.{needs}
 use Rattle.glass.proofs.dot.Statement.{statement}
@@ -6,11 +7,12 @@ use Rattle.glass.proofs.dot.Tie as tie
 
 returns : tie.Need-returns
 unfolding dotAnswer
-returns c = rw (lt-leb 1 _ (c .if1 .taken))
+returns c = rw (lt-leb 1 (c .before .args .k) (omega (arith, c .if1 .taken)))
 
 returns-2 : tie.Need-returns-2
 unfolding dotAnswer
-returns-2 c = rw (le-leb 1 _ (c .before .if1 .left), lt-leb _ 35 (c .if2 .taken))
+returns-2 c =
+    rw (le-leb 1 _ (c .before .if1 .left), lt-leb (c .before .before .args .k) 35 (omega (arith, c .if2 .taken)))
 
 lookup-requires : tie.Need-lookup-requires
 lookup-requires c κs = search needs

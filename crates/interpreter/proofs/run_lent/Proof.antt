@@ -127,19 +127,23 @@ module _ {M : Type 1} (𝓤 : URA M) (H : Heap 𝓤) (A : Atoms 𝓤) (W : Given
       exE 𝓤 _
       (λ ws. snd∗ 𝓤 (sem 𝓤 H A (lasts run′.ended (κ′, tt) (c, (h, (s, tt))) ws)) (fact 𝓤 (RunPromise c h (now s) r)))
 
+  -- the tally at which the borrow is closed
+  abbrev left : Ran → Tally
+  left r = r .tally
+
   exits : Is C.the-row c (cval c ∷ []) → (r : Ran) → RunPromise c h (now s) r
       → ent 𝓤
       (⋆ 𝓤 H A
-      (‵ (fobs γ (T.the-row .coded .code (r .tally))) ∷ ‵ (fbor κ (Body (mem T.the-row) b o γ)) ∷ ‵ (flft κ q)
+      (‵ (fobs γ (T.the-row .coded .code (left r))) ∷ ‵ (fbor κ (Body (mem T.the-row) b o γ)) ∷ ‵ (flft κ q)
       ∷ ‵ (R.the-row .own r (rval r ∷ [])) ∷ (‵ (flft κ′ q′) ⊛ ‵ ftrue) ∷ ‵ Own ∷ []))
       (Post (rval r))
   exits gc r e =
       qed W
-      (‵ (fobs γ (T.the-row .coded .code (r .tally))) ∷ ‵ (fbor κ (Body (mem T.the-row) b o γ)) ∷ ‵ (flft κ q)
+      (‵ (fobs γ (T.the-row .coded .code (left r))) ∷ ‵ (fbor κ (Body (mem T.the-row) b o γ)) ∷ ‵ (flft κ q)
       ∷ ‵ (R.the-row .own r (rval r ∷ [])) ∷ (‵ (flft κ′ q′) ⊛ ‵ ftrue) ∷ ‵ Own ∷ []) ∵
       suffices ! _
       (ends-at 𝓤 H A lent.ended stayed (lent.clauses 𝓤 H A at-mem run) W (((κ, (κ′, tt)), (q, (q′, tt)), tt, x, at), tt)
-      (rval r) r (r .tally, (tt, (tt, tt))) (tt, (tt, (tt, tt)))) $
+      (rval r) r (left r, (tt, (tt, tt))) (tt, (tt, (tt, tt)))) $
       says ! (record { ran = e; stored = refl }) $
       move ! (2 ∷ 4 ∷ []) $ join ! $ frame ! $ feqI ! (List Val) (vptr b o ∷ []) (vptr b o ∷ []) refl $ fjoin3 ! $
       -- [what the &mut owns; the answer; what the slice owns]
@@ -194,17 +198,16 @@ module _ {M : Type 1} (𝓤 : URA M) (H : Heap 𝓤) (A : Atoms 𝓤) (W : Given
         rewrite ! 11 (λ (u : Val). ‵ (fat fullShare R′.mir l₄ 0 u)) (ap only (LL.tells R.the-type R′.the-laws r _ is)) refl $
         rewrite ! 0 (λ (us : List Val). ‵ (R.the-row .own r us)) (LL.tells R.the-type R′.the-laws r _ is) refl $
         peeks ! R.the-row (Is R.the-row) (shows 𝓤 H A R.the-row) r (rval r ∷ []) (λ gr.
+        let gl : Is T.the-row (left r) (tval (left r) ∷ []) = LL.owed R.the-type R′.the-laws r _ gr .1 .1 .0 in
         assigns ! (of-opd ! (load ! (from ! (fld ! refl (stop !))) (look-in ! 11 (sub ! 2 refl (whole !)))))
         (from ! (hop ! (look ! 17 refl) (stop !)))
-        (store-raw ! 4 refl
-        (LL.lawful T.the-type T′.the-laws 𝓤 H A W .typed (r .tally) _ (LL.owed R.the-type R′.the-laws r _ gr .1 .1 .0) .0)) $
+        (store-raw ! 4 refl (LL.lawful T.the-type T′.the-laws 𝓤 H A W .typed (left r) _ gl .0)) $
         assigns ! (of-opd ! (load ! (from ! (stop !)) (look ! 11 refl))) (from ! (stop !))
         (init ! 19 refl (LL.lawful R.the-type R′.the-laws 𝓤 H A W .typed r _ gr .0)) $
         -- the borrow is closed at the answer's tally
         move ! (5 ∷ []) $ drop ! $
-        owned ! T.the-row (Is T.the-row) (LL.makes T.the-type T′.the-plain 𝓤 H A) (r .tally) _
-        (LL.owed R.the-type R′.the-laws r _ gr .1 .1 .0) $
-        move ! (5 ∷ 0 ∷ 6 ∷ 7 ∷ 8 ∷ []) $ closes ! tt T.the-row (r .tally) (tval (r .tally) ∷ []) b o $
+        owned ! T.the-row (Is T.the-row) (LL.makes T.the-type T′.the-plain 𝓤 H A) (left r) _ gl $
+        move ! (5 ∷ 0 ∷ 6 ∷ 7 ∷ 8 ∷ []) $ closes ! tt T.the-row (left r) (tval (left r) ∷ []) b o $
         -- [obs; the borrow; its token; the answer; the slice's token; what s owns; true;
         -- _5; …; _4; …; _3; …; _2; …; _1; …; _0; …]
         returns ! (look ! 17 refl) $ forget ! 7 refl $ forget ! 9 refl $ forget ! 11 refl $ forget ! 13 refl $

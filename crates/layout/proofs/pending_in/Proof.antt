@@ -1,5 +1,5 @@
 use native.Mathlib.Omega.{arith}
-use Rattle.layout.proofs.PackedBack.{above}
+use Rattle.layout.proofs.PackedBack.{kind-above-5}
 use Rattle.layout.proofs.pending_in.Statement.{statement}
 use Rattle.layout.proofs.pending_in.Tie as tie
 
@@ -22,7 +22,7 @@ returns-6 : tie.Need-returns-6
 returns-6 c = rw (c .match .keys6)
 
 returns-7 : tie.Need-returns-7
-returns-7 c = above (c .before .args .kind) _ _ (omega (arith, c .match .rest))
+returns-7 c = kind-above-5 (c .before .args .kind) _ _ (omega (arith, c .match .rest))
 
 pub pending-in-spec : {M : Type 1} → statement M
 pending-in-spec =

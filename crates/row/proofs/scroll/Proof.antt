@@ -2,7 +2,7 @@ use mathlib.Core.Path.{_≡_, _∙_, sym}
 use lib.ListN.{length}
 use borrow.Author.Tests.{ne-eqb}
 use Rattle.row.specs.Row.{onPicture, scrolled}
-use Rattle.row.proofs.Laws.{scroll-law, pictured}
+use Rattle.row.proofs.Laws.{scroll-law, on-picture}
 use borrow.Author.Needs.{needs}
 use Rattle.row.proofs.scroll.Statement.{statement}
 use Rattle.row.proofs.scroll.Tie as tie
@@ -26,7 +26,7 @@ returns-2 c =
     let h : length (a .cells .now) ≡ 40 = search needs in
     c .before .before .fill .ensures
     ∙ scroll-law (a .cells .now) _ (a .v) h (search needs) (c .before .before .before .before .before .before .pull .ensures)
-    ∙ sym (pictured (scrolled (a .v)) (a .cells .now) h)
+    ∙ sym (on-picture (scrolled (a .v)) (a .cells .now) h)
 
 pub scroll-spec : {M : Type 1} → statement M
 scroll-spec = tie.close (tie.spec returns pull-requires fill-requires same-length returns-2)

@@ -2,7 +2,7 @@ use mathlib.Core.Path.{_≡_}
 use lib.ListN.{length}
 use borrow.Author.Tests.{ne-eqb}
 use Rattle.row.specs.Row.{onPicture, shifted, lineStart}
-use Rattle.row.proofs.Laws.{shift-law, pictured}
+use Rattle.row.proofs.Laws.{shift-law, on-picture}
 use borrow.Author.Needs.{needs}
 use Rattle.row.proofs.shift.Statement.{statement}
 use Rattle.row.proofs.shift.Tie as tie
@@ -31,7 +31,7 @@ returns-2 c =
     let a = c .before .before .before .before .before .before .before .args in
     let start = c .before .before .before .before .line-start in
     let h : length (a .cells .now) ≡ 40 = search needs in
-    rw (c .before .before .pull .ensures, pictured (shifted (lineStart (a .at)) (a .v)) (a .cells .now) h, ← start .ensures .0)
+    rw (c .before .before .pull .ensures, on-picture (shifted (lineStart (a .at)) (a .v)) (a .cells .now) h, ← start .ensures .0)
     (shift-law (a .cells .now) (start .result) (a .v) h (start .ensures .1))
 
 pub shift-spec : {M : Type 1} → statement M

@@ -3,8 +3,6 @@ use borrow.Author.Tests.{eq-eqb, ne-eqb}
 use borrow.Author.Needs.{needs}
 use Rattle.show.proofs.separator.Statement.{statement}
 use Rattle.show.proofs.separator.Tie as tie
-use Rattle.show.proofs.separator.Reads as reads
-use Rattle.show.proofs.separator.Lts as lts
 
 sub-if1 : tie.Need-sub-if1
 sub-if1 c = search needs

@@ -3,13 +3,13 @@ use mathlib.Core.Path.{_≡_, _∙_}
 use native.Mathlib.Omega.{arith}
 use Rattle.lines.specs.Lines.{Added, each}
 use Rattle.lines.proofs.Laws.{none-added, each-added, same-added}
-use Rattle.tell.specs.Report.{placeLine}
+use Rattle.tell.specs.Report.{userAt}
 use borrow.Author.Needs.{needs}
 use Rattle.tell.proofs.add_users.Statement.{statement}
 use Rattle.tell.proofs.add_users.Tie as tie
 
 abbrev Inv-loop : tie.InvT-loop
-Inv-loop out₀ k c bytes n at₀ i₀ out at i = (i ≤ n) × Added out₀ k (each (placeLine c) i) out at
+Inv-loop out₀ k c bytes n at₀ i₀ out at i = (i ≤ n) × Added out₀ k (each (userAt c) i) out at
 
 abbrev μ-loop : tie.MeasureT-loop
 μ-loop out₀ k c bytes n at₀ i₀ out at i = n - i
@@ -39,7 +39,7 @@ loop-less : tie.Need-loop-less Inv-loop μ-loop
 loop-less c = omega (arith, c .before .before .before .before .loop-test .taken)
 
 loop-again : tie.Need-loop-again Inv-loop μ-loop
-unfolding placeLine
+unfolding userAt
 loop-again c =
     let t = c .before .before .before .before in
     let l = t .before .loop in

@@ -1,5 +1,5 @@
 use lib.ListN.{getD}
-use Rattle.inplace.proofs.Tests.{inner-column, edge-column}
+use Rattle.inplace.proofs.Columns.{inner-column, edge-column}
 use Rattle.condition.specs.Busy.{lineShifts}
 use mathlib.Core.Path.{sym, _∙_}
 use Rattle.inplace.proofs.InPlace.{cursor-at, mode-at, scrolling-at}

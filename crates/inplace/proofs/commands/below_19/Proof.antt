@@ -1,4 +1,4 @@
-use Rattle.inplace.proofs.Tests.{at-19, short-of-19}
+use Rattle.inplace.proofs.Columns.{at-19, short-of-19}
 use borrow.Author.Needs.{needs}
 use Rattle.inplace.proofs.commands.below_19.Statement.{statement}
 use Rattle.inplace.proofs.commands.below_19.Tie as tie

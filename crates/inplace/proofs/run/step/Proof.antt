@@ -1,4 +1,6 @@
-use Rattle.inplace.proofs.Branches.{plain-char, user-char, no-char, char-step, control-step}
+use mathlib.Core.Path.{sym, _∙_}
+use Rattle.condition.proofs.Characters.{plain-char, user-char, no-char}
+use Rattle.inplace.proofs.Branches.{char-step, control-step}
 use borrow.Author.Needs.{needs}
 use Rattle.inplace.proofs.run.step.Statement.{statement}
 use Rattle.inplace.proofs.run.step.Tie as tie
@@ -44,7 +46,7 @@ returns-3 c =
     let t = c .before .before .before .before in
     let w = c .before .before .character2 .ensures in
     char-step _ _ (t .before .before .before .before .if1 .left) _ _
-    (user-char _ _ _ (t .before .is-user .ensures) (t .if3 .taken)) (w .0) (w .1)
+    (user-char _ _ (sym (t .before .is-user .ensures) ∙ t .if3 .taken)) (w .0) (w .1)
 
 control-busy-requires : tie.Need-control-busy-requires
 control-busy-requires c κs = search needs
@@ -59,7 +61,7 @@ returns-4 : tie.Need-returns-4
 returns-4 c =
     let t = c .before .before .before .before .before .before in
     control-step _ _ (t .before .before .before .before .if1 .left) _ _
-    (no-char _ _ _ (t .before .is-user .ensures) (t .if3 .left) (t .before .before .before .if2 .left))
+    (no-char _ _ (sym (t .before .is-user .ensures) ∙ t .if3 .left) (t .before .before .before .if2 .left))
     (c .before .before .control .ensures) (c .before .before .before .before .control-busy .ensures)
 
 pub step-spec : {M : Type 1} → statement M

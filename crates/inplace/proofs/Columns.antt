@@ -1,10 +1,11 @@
--- What the code's tests tell of the definitions' tests.
+-- Columns: what the code's tests of a place tell of the definitions' tests.
 use Prim.Native.Nat.{ℕ, _%_, _<_}
-use mathlib.Core.Path.{_≡_, refl, sym}
-use mathlib.Core.Bool.{Bool, true, false}
+use mathlib.Core.Path.{_≡_, sym, _∙_}
+use mathlib.Core.Bool.{true, false}
 use native.Mathlib.Omega.{arith}
 use lib.Dec.{eqb, ltb}
 use borrow.Author.Tests.{lt-ltb, le-ltb, le-leb, lt-leb, eq-eqb, ne-eqb, ltb-true, ltb-false}
+use Rattle.laws.proofs.Tests.{split}
 
 -- what turns a test into its answer: `search tests`
 pub ruleset tests = (lt-ltb, le-ltb, le-leb, lt-leb, eq-eqb, ne-eqb)
@@ -14,11 +15,9 @@ pub at-19 : (x : ℕ) → x ≡ 19 → false ≡ ltb (x % 20) 19
 at-19 x h = rw h
 
 pub short-of-19 : (x : ℕ) → x < 40 → (x ≡ 19 → ⊥) → ltb x 39 ≡ ltb (x % 20) 19
-short-of-19 x h k = go (ltb x 39) refl
-  where
-    go : (t : Bool) → ltb x 39 ≡ t → t ≡ ltb (x % 20) 19
-    go true e = sym (lt-ltb (x % 20) 19 (omega (arith, k, ltb-true x 39 e)))
-    go false e = sym (le-ltb (x % 20) 19 (omega (arith, ltb-false x 39 e)))
+short-of-19 x h k =
+    split (ltb x 39) (λ e. e ∙ sym (lt-ltb (x % 20) 19 (omega (arith, k, ltb-true x 39 e))))
+    (λ e. e ∙ sym (le-ltb (x % 20) 19 (omega (arith, ltb-false x 39 e))))
 
 -- a column that is not below 19 is 19
 pub edge-column : (x : ℕ) → ltb (x % 20) 19 ≡ false → eqb (x % 20) 19 ≡ true
