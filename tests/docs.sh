@@ -7,9 +7,10 @@
 #   here, or a name behind it, `path: name, name`, that the file does not define. In a section with a line
 #   "Definitions: `path`" each name in backticks is one of that file;
 # - a place in a block that include/sign.h names and the table of docs/HOST.md does not have;
+# - a crate that README.md's table and crates.txt do not both have;
 # - in docs/PROMISES.md how many wrong programs there are of each kind, where it is not so;
 # - there, in the paragraph "Never run as compiled:", a function that a program runs, or one missing that none runs;
-# - in any file a path of somebody's machine, or a word about how the work was done.
+# - in any file a path of somebody's machine.
 # shellcheck disable=SC2016,SC2086
 set -eu
 cd "$(dirname "$0")/.."
@@ -117,14 +118,29 @@ missing_places() {
     done
 }
 
-# An edit of a contract in src/ is one of a definition: it names the logic's own signs.
+miscrated() {
+    sed -n 's/^| `\([a-z_]*\)` |.*/\1/p' README.md >"$work/told"
+    sed -n 's/^\([a-z_]*\):.*/\1/p' crates.txt >"$work/crates"
+    sort "$work/told" >"$work/told.sorted"
+    sort "$work/crates" | comm -3 - "$work/told.sorted" | sed 's/[[:space:]]//g; s/.*/README.md: the crate & is not both there and in crates.txt/'
+}
+
+# An edit of a contract in src/ is one of a definition: it names the logic's own signs. A proof that follows the code
+# statement by statement (a walk, by hand) is changed along with the code.
 miscounted() {
-    code=0 definition=0 both=0
+    code=0 definition=0 both=0 walked=0
     for edit in crates/*/must-fail/*.edit crates/*/must-fail/*.slip; do
-        ! grep '^file: ' "$edit" | grep -Eqv '^file: (src|specs)/' || echo "$edit: what it changes is neither code nor a definition"
+        for file in $(sed -n 's/^file: //p' "$edit"); do
+            case $file in
+            src/* | specs/*) ;;
+            *) grep -q 'a walk of its MIR, by hand' "${edit%/must-fail/*}/$file" || echo "$edit: $file is neither code nor a definition" ;;
+            esac
+        done
         defined=$(grep -cE '^file: specs/|^old: .*(⌜|⌝|≡|now \()' "$edit" || true)
         coded=$(awk '/^file: /{ f = $2 } /^old: / && f ~ /^src\// && !/⌜|⌝|≡|now \(/ { n++ } END { print n + 0 }' "$edit")
-        if [ "$defined" -eq 0 ]; then
+        if grep -q '^file: proofs/' "$edit"; then
+            walked=$((walked + 1))
+        elif [ "$defined" -eq 0 ]; then
             code=$((code + 1))
         elif [ "$coded" -eq 0 ]; then
             definition=$((definition + 1))
@@ -132,8 +148,9 @@ miscounted() {
             both=$((both + 1))
         fi
     done
-    said="$((code + definition + both)) edits: $code of the code alone, $definition of a definition alone, $both of both"
-    grep -q "$said" docs/PROMISES.md || echo "docs/PROMISES.md: it should say \"$said\""
+    said="$((code + walked + definition + both)) edits: $code of the code alone, $walked of the code and the walk that is its proof,
+$definition of a definition alone, $both of code and definition"
+    tr '\n' ' ' <docs/PROMISES.md | grep -qF "$(echo "$said" | tr '\n' ' ' | sed 's/ $//')" || echo "docs/PROMISES.md: it should say \"$said\""
 }
 
 misrun() {
@@ -146,11 +163,11 @@ misrun() {
 }
 
 # The brackets keep this line from finding itself.
-strangers() { xargs grep -nE '/[o]pt/|/[w]ork/|/[r]oot/[A-Za-z]|[s]ubagent' /dev/null <"$work/files" || true; }
+strangers() { xargs grep -nE '/[o]pt/|/[w]ork/|/[r]oot/[A-Za-z]|/[h]ome/[A-Za-z]' /dev/null <"$work/files" || true; }
 
 links >"$work/links"
 references >"$work/references"
-{ long_lines; long_proofs; dead_links; dead_references; missing_places; miscounted; misrun; strangers; } >"$work/wrong"
+{ long_lines; long_proofs; dead_links; dead_references; missing_places; miscrated; miscounted; misrun; strangers; } >"$work/wrong"
 cat "$work/wrong"
 count() { grep -c . "$work/$1" || true; }
 echo "docs: $(count pages) pages, $(count links) links, $(count references) references, $(count wrong) wrong"

@@ -5,7 +5,7 @@ set -eu
 cd "$(dirname "$0")/.."
 case ${1:-} in
 names) echo "$tests" && exit ;;
-docs | wrong) exec "tests/$1.sh" ;; # they want no compiler
+docs | wrong) name=$1 && shift && exec "tests/$name.sh" "$@" ;; # they want no compiler
 esac
 . tests/tools.sh
 out=target/tests

@@ -1,8 +1,8 @@
 #!/bin/sh
 # Tries the wrong programs crates/*/must-fail/*.slip, each over what was proved of its crate: tests/wrong.sh [CRATE..]
 # `rt ci` tries those that end in .edit by a check of their whole crate. Here a crate is checked once, and then only what
-# an edit changes is checked anew (`rt dev`), which takes a tenth of the time. What is not checked anew was proved, so a
-# refusal is a refusal. A slip that is not refused, or does not fit the code, is wrong. Two crates are tried at a time.
+# an edit changes is checked anew (`rt dev`). What is not checked anew was proved, so a refusal is a refusal. Wrong is a
+# slip that is proved, that is no program or no definition, or that does not fit the code. Two crates are tried at a time.
 set -eu
 cd "$(dirname "$0")/.."
 root=$PWD
@@ -34,19 +34,42 @@ apply() {
         END { if (!failed && !pairs) fail("it changes nothing"); exit failed }' "$1"
 }
 
+# first LOG: where the prover stopped first, and why. (That something "was not admitted" follows from another place.)
+first() {
+    grep -E "^(note: )?$here/crates/$name/[^ ]*:[0-9]+:[0-9]+: " "$1" | grep -v 'was not admitted' | head -n 1 |
+        sed "s|^note: ||; s|^$here/crates/$name/||"
+}
+
+# judge SLIP LABEL: the slip, applied, is a program whose proof fails
+judge() {
+    log=$here/$(basename "$1" .slip).log
+    if rt dev "$name" >"$log" 2>&1; then
+        echo "wrong: FAILED: $2 is proved: it is not wrong, or no contract says so"
+    elif ! grep -q '^logic=not-proved' "$log"; then
+        echo "wrong: FAILED: $2 is no program: $(grep -m 1 'error: ' "$log" || tail -n 1 "$log")"
+    else
+        place=$(first "$log")
+        case $place in
+        '') echo "wrong: FAILED: $2: the prover names no place: $log" ;;
+        specs/*) echo "wrong: FAILED: $2 is no definition: $place" ;;
+        *) echo "wrong: $2 is refused, first at ${place%%: *}" && return ;;
+        esac
+    fi
+    return 1
+}
+
 # One crate: a small repository that has the proved libraries of this one, in which its code may be changed.
 try_crate() {
-    name=$1 here=$work/$1
+    name=$1 here=$work/$1 status=0
     rm -rf "$here"
     mkdir -p "$here/target"
     cp -R "$root/crates.txt" "$root/crates" "$here"
     ln -s "$root/target/rlib" "$root/target/stamp" "$here/target"
     cd "$here"
     if ! rt dev "$name" >proved.log 2>&1; then
-        echo "wrong: FAILED: $name is not proved"
+        echo "wrong: FAILED: $name is not proved: $here/proved.log"
         return 1
     fi
-    status=0
     for slip in "$root/crates/$name/must-fail"/*.slip; do
         label=$name/$(basename "$slip" .slip)
         rm -rf "crates/$name"
@@ -54,21 +77,15 @@ try_crate() {
         if ! why=$(apply "$slip" "crates/$name"); then
             echo "wrong: FAILED: $label: $why"
             status=1
-            continue
-        fi
-        if rt dev "$name" >tried.log 2>&1 || ! grep -q '^logic=not-proved' tried.log; then
-            echo "wrong: FAILED: $label is not refused"
+        elif ! judge "$slip" "$label"; then
             status=1
-        else
-            first=$(sed -n "s|^$here/crates/$name/\([^ ]*\): error: .*|\1|p" tried.log | head -n 1)
-            echo "wrong: $label is refused${first:+, first at $first}"
         fi
     done
     # what was saved on the way still proves the crate as it is
     rm -rf "crates/$name"
     cp -R "$root/crates/$name" crates
     if ! rt dev "$name" >proved.log 2>&1; then
-        echo "wrong: FAILED: $name is no longer proved"
+        echo "wrong: FAILED: $name is no longer proved: $here/proved.log"
         status=1
     fi
     return "$status"
@@ -78,7 +95,15 @@ case ${1:-} in
 --one) try_crate "$2" && exit || exit 1 ;;
 esac
 [ $# -gt 0 ] || set -- $(ls crates/*/must-fail/*.slip | cut -d / -f 2 | uniq)
-rt check "$@" >/dev/null
+for name; do
+    ls "crates/$name/must-fail"/*.slip >/dev/null 2>&1 || { echo "wrong: $name has no slips" && exit 1; }
+done
+mkdir -p "$work"
+if ! rt check "$@" >"$work/check.log" 2>&1; then
+    cat "$work/check.log"
+    echo "wrong: FAILED: the code as it is is not proved"
+    exit 1
+fi
 # Those that are checked longest first.
 printf '%s\n' "$@" | while read -r name; do echo "$(find "crates/$name/proofs" -name Proof.antt | wc -l) $name"; done |
     sort -rn | cut -d ' ' -f 2 | xargs -n 1 -P 2 "$0" --one

@@ -110,6 +110,15 @@ impl Program {
     pub fn on(&mut self, input: &[u8]) {
         self.try_on(input, By::Pipe);
     }
+
+    /// As many characters as the input has bytes; the input, by every way.
+    pub fn on_length(&mut self, input: &[u8]) {
+        self.on(&vec![0x41; input.len()]);
+        for by in [By::Pipe, By::File, By::Pieces] {
+            self.try_on(input, by);
+        }
+    }
+
     pub fn end(&self, at_least: u64) -> ! {
         self.report.end(self.name, at_least)
     }

@@ -450,6 +450,7 @@ fn conditions(r: &mut Report) {
         for b in 0..=255 {
             let mut next = c.clone();
             let busy = next.take(b);
+            r.cases += 1;
             r.expect(next.well_formed(), || format!("{:02X} breaks {:?}", b, c));
             r.expect([4, 6, 7, 15, 20, 40, 65].contains(&busy), || {
                 format!("busy {} after {:02X}", busy, b)
@@ -476,6 +477,6 @@ fn main() {
     two_fonts(&mut r, &moves);
     two_fonts_refused(&mut r, &moves);
     conditions(&mut r);
-    // the bench sheet, the sample, examples by hand, ways, plans of two fonts and their refusals, conditions
-    r.end("self", 14 + 2 + 28 + 1_603 + 2_017 + 15 + 3_000);
+    // the bench sheet, the sample, examples by hand, ways, plans of two fonts and their refusals, conditions and each byte on each
+    r.end("self", 14 + 2 + 28 + 1_603 + 2_017 + 15 + 3_000 + 768_000);
 }

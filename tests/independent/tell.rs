@@ -93,12 +93,8 @@ fn main() {
     }
 
     // lengths at the limit
-    for &n in &[32_767usize, 32_768, 32_769, 32_770, 100_000] {
-        s.on(&vec![0x41; n]);
-        let mixed = inputs::mixed(n);
-        s.on(&mixed);
-        s.try_on(&mixed, By::File);
-        s.try_on(&mixed, By::Pieces);
+    for n in [32_767, 32_768, 32_769, 32_770, 100_000] {
+        s.on_length(&inputs::mixed(n));
     }
 
     // random commands, most of them about user characters, and random bytes
