@@ -7,7 +7,7 @@ use lib.Dec.{leb, ltb, eqb}
 use lib.ListN.{set, length, length-set}
 use borrow.Author.Tests.{leb-true, ltb-true, le-leb, lt-ltb}
 use Rattle.laws.proofs.Tests.{clash, both, by-test}
-use Rattle.row.proofs.Laws.{line-start-20, scrolled-40, shifted-40}
+use Rattle.row.proofs.Laws.{line-start-most, scrolled-40, shifted-40}
 use Rattle.users.proofs.Places.{define-96}
 use Rattle.condition.specs.declared.Condition.{Condition}
 use Rattle.condition.specs.declared.Pending.{Pending}
@@ -136,7 +136,7 @@ push-sized : (c : Condition) (b : ℕ) → Sized c → Sized (pushOf c b)
 unfolding pushOf
 push-sized c b s =
     by-test Sized (c .scrolling)
-    (λ _. let l = line-start-20 (c .cursor) in
+    (λ _. let l = line-start-most (c .cursor) in
     record {
       codes-40 = shifted-40 _ b (c .codes) l (s .codes-40);
       fonts-40 = shifted-40 _ (c .font) (c .fonts) l (s .fonts-40);

@@ -36,7 +36,7 @@ rows-law c f u h =
     (grouped m (leb (c .users .count) 16) (scrollGood c) (allUpTo 1 (c .fonts)) (usersGood (c .users .count) (c .users .bytes))
     (pendingGood (c .pending) (c .held)) (idle (c .pending) || absent 0x1B (c .users .count) (c .users .bytes)))
 
--- A place at a time --------------------------------------------------------------------------------------
+-- A place at a time, and what is held --------------------------------------------------------------------------------------
 
 pub absent-step : (x left : ℕ) (s : List ℕ) (at : ℕ) → 0 < left
     → absent x left (drop at s) ≡ (not (eqb (getD s at 0) x) && absent x (left - 1) (drop (at + 6) s))

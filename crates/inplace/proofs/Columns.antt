@@ -4,11 +4,8 @@ use mathlib.Core.Path.{_≡_, sym, _∙_}
 use mathlib.Core.Bool.{true, false}
 use native.Mathlib.Omega.{arith}
 use lib.Dec.{eqb, ltb}
-use borrow.Author.Tests.{lt-ltb, le-ltb, le-leb, lt-leb, eq-eqb, ne-eqb, ltb-true, ltb-false}
-use Rattle.laws.proofs.Tests.{split}
-
--- what turns a test into its answer: `search tests`
-pub ruleset tests = (lt-ltb, le-ltb, le-leb, lt-leb, eq-eqb, ne-eqb)
+use borrow.Author.Tests.{lt-ltb, le-ltb, eq-eqb, ne-eqb, ltb-true, ltb-false}
+use Rattle.laws.proofs.Tests.{by-cases}
 
 -- of the places 0 to 39, column 19 are 19 and 39
 pub at-19 : (x : ℕ) → x ≡ 19 → false ≡ ltb (x % 20) 19
@@ -16,7 +13,7 @@ at-19 x h = rw h
 
 pub short-of-19 : (x : ℕ) → x < 40 → (x ≡ 19 → ⊥) → ltb x 39 ≡ ltb (x % 20) 19
 short-of-19 x h k =
-    split (ltb x 39) (λ e. e ∙ sym (lt-ltb (x % 20) 19 (omega (arith, k, ltb-true x 39 e))))
+    by-cases (ltb x 39) (λ e. e ∙ sym (lt-ltb (x % 20) 19 (omega (arith, k, ltb-true x 39 e))))
     (λ e. e ∙ sym (le-ltb (x % 20) 19 (omega (arith, ltb-false x 39 e))))
 
 -- a column that is not below 19 is 19

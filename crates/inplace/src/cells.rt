@@ -51,7 +51,7 @@ pub(crate) fn blank(s: &mut [u8], font: u8)
     row::clear(&mut s[FONTS..USERS], font);
 }
 
-// 0Eh and 0Fh.
+// 0Eh and 0Fh. The cursor stays.
 pub(crate) fn clear(s: &mut [u8])
     requires { ⌜ 200 ≤ length (now s) ⌝ }
     ensures { λ _. ⌜ conditionIn (now (s .exit)) ≡ clearOf (conditionIn (now (s .entry))) ⌝ }

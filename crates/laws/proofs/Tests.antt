@@ -5,12 +5,15 @@ use mathlib.Core.Bool.{Bool, true, false, cond, _&&_, _||_}
 use Prim.Native.Nat.{ℕ, suc}
 use native.Mathlib.Omega.{arith}
 use lib.Dec.{T, eqb}
-use borrow.Author.Tests.{eqb-true, eqb-false}
+use borrow.Author.Tests.{lt-ltb, le-ltb, le-leb, lt-leb, eq-eqb, ne-eqb, eqb-true, eqb-false}
+
+-- what turns a test of numbers into its answer: `search tests`
+pub ruleset tests = (lt-ltb, le-ltb, le-leb, lt-leb, eq-eqb, ne-eqb)
 
 -- a test is true or false: what holds either way holds
-pub split {ℓ} : {P : Type ℓ} (t : Bool) → (t ≡ true → P) → (t ≡ false → P) → P
-split true f g = f refl
-split false f g = g refl
+pub by-cases {ℓ} : {P : Type ℓ} (t : Bool) → (t ≡ true → P) → (t ≡ false → P) → P
+by-cases true f g = f refl
+by-cases false f g = g refl
 
 -- and not both
 pub clash : {A : Type 0} {b : Bool} → b ≡ true → b ≡ false → A
@@ -47,4 +50,4 @@ number-by {A} number n ea eb =
 
 -- two numbers are equal or they are not
 pub by-equal : {P : Type 0} (i k : ℕ) → (i ≡ k → P) → ((i ≡ k → ⊥) → P) → P
-by-equal i k f g = split (eqb i k) (λ e. f (eqb-true i k e)) (λ e. g (eqb-false i k e))
+by-equal i k f g = by-cases (eqb i k) (λ e. f (eqb-true i k e)) (λ e. g (eqb-false i k e))

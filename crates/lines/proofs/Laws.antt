@@ -12,7 +12,7 @@ use lib.ListN.{length, take, drop, length-append, length-take, length-drop, drop
 use lib.Seq.{take-at, take-all, take-append-add, drop-append-add, length-take-le}
 use borrow.Author.Tests.{lt-ltb, le-ltb, leb-true, leb-false}
 use borrow.Rule.Slice.PartMut.{postOf}
-use Rattle.laws.proofs.Tests.{split, by-test}
+use Rattle.laws.proofs.Tests.{by-cases, by-test}
 use Rattle.laws.proofs.Lists.{tail-part}
 use Rattle.row.specs.Row.{laid}
 use Rattle.row.proofs.Laws.{laid-none, laid-empty, laid-both}
@@ -26,7 +26,7 @@ put k x a = take k a ++ laid x (drop k a)
 
 both-text : (a x y : List ℕ) (k : ℕ) → put (k + min (length x) (length a - k)) y (put k x a) ≡ put k (x ++ y) a
 both-text a x y k =
-    split (leb k (length a))
+    by-cases (leb k (length a))
     (λ e. let p = take k a in
     let s = drop k a in
     let n = min (length x) (length a - k) in
@@ -147,7 +147,7 @@ digits-decimal (suc f) (suc (suc r)) n h l =
 -- a number of 64 bits has at most 20 digits
 fewest-20 : (n r : ℕ) → Fewest 10 1 n r → n < 2 ^ 64 → r ≤ 20
 fewest-20 n r f h =
-    split (leb r 20) (λ e. leb-true r 20 e)
+    by-cases (leb r 20) (λ e. leb-true r 20 e)
     (λ e. let l : 20 < r = leb-false r 20 e in
     let p : 10 ^ 20 ≤ 10 ^ (r - 1) = pow-le-pow-right {n = 10} (lit< tt) {i = 20} {j = r - 1} (omega arith) in
     let q : 10 ^ (r - 1) ≤ n = f .2 (omega arith) in

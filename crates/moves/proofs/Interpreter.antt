@@ -8,7 +8,7 @@ use native.Mathlib.Omega.{arith}
 use lib.Dec.{eqb, ltb, leb}
 use lib.ListN.{length}
 use borrow.Author.Tests.{eqb-true, eqb-false, eq-eqb, ne-eqb, ltb-true, ltb-false, lt-ltb, le-ltb, leb-true, le-leb}
-use Rattle.laws.proofs.Tests.{split, clash, both}
+use Rattle.laws.proofs.Tests.{by-cases, clash, both}
 use Rattle.row.specs.Row.{lineStart}
 use Rattle.users.specs.Users.{isUser}
 use Rattle.condition.specs.declared.Condition.{Condition}
@@ -56,9 +56,9 @@ go-is c x e = λ i. withScrolling (withCursor c x) (sym e i)
 next-is : (p : ℕ) → p < 40 → cond (ltb (p % 20) 19) (p + 1) (cond (eqb p 19) 20 0) ≡ next p
 unfolding next
 next-is p h =
-    split (ltb (p % 20) 19) (λ e. rw (e, lt-ltb p 39 (omega (arith, ltb-true (p % 20) 19 e))))
+    by-cases (ltb (p % 20) 19) (λ e. rw (e, lt-ltb p 39 (omega (arith, ltb-true (p % 20) 19 e))))
     (λ e.
-    split (eqb p 19) (λ z. rw (e, z, eqb-true p 19 z))
+    by-cases (eqb p 19) (λ z. rw (e, z, eqb-true p 19 z))
     (λ z. rw (e, z, le-ltb p 39 (omega (arith, ltb-false (p % 20) 19 e, eqb-false p 19 z)))))
 
 pub right-is : (c : Condition) → c .mode ≡ 1 → c .cursor < 40 → rightOf c ≡ withCursor c (next (c .cursor))
@@ -145,7 +145,7 @@ module _ (c : Condition) (r : Ready c) (free : (m : ℕ) → any (eqb m) moves �
   leads-there (x ∷ xs) none a b h l =
       let d = partly c none a in
       let g = partly-ready c a r h in
-      split (eqb x 0x1B)
+      by-cases (eqb x 0x1B)
       (λ e.
       ap (λ (d : Condition). runOf d xs) (ap (stepOf d) (eqb-true x 0x1B e) ∙ escapes d g free1B)
       ∙ leads-there xs escape a b h (rw e at l))
@@ -198,13 +198,13 @@ leads-back c r (x ∷ xs) none a h o =
     let d = partly c none a in
     let may = both (stepByte Nothing d 40 x) (inOrder (stepOf d x) (lowAfter d 40 x) xs) o .0 in
     let rest = both (stepByte Nothing d 40 x) (inOrder (stepOf d x) (lowAfter d 40 x) xs) o .1 in
-    split (isChar c x)
+    by-cases (isChar c x)
     (λ e. let l : 40 ≤ a = leb-true 40 a (rw e at may) in absurd (omega arith))
     (λ e. let m : (isMove x || eqb x 0x1B) ≡ true = rw e at may in
     let low : lowAfter d 40 x ≡ 40 = rw e in
     let on = subst (λ (n : ℕ). inOrder (stepOf d x) n xs ≡ true) low rest in
     let u = no-user c x e in
-    split (eqb x 0x1B)
+    by-cases (eqb x 0x1B)
     (λ z. let q : x ≡ 0x1B = eqb-true x 0x1B z in
     let n = ap (stepOf d) q ∙ escapes d (partly-ready c a r h) (ap (isUser (c .users)) (sym q) ∙ u) in
     rw z (carried escape a xs n (leads-back c r xs escape a h) on))

@@ -8,8 +8,8 @@ use native.Mathlib.Omega.{arith}
 use lib.Dec.{eqb, ltb}
 use lib.ListN.{length}
 use borrow.Author.Tests.{eqb-true, eq-eqb, ltb-true, ltb-false, lt-ltb}
-use Rattle.laws.proofs.Tests.{split, clash, by-test}
-use Rattle.row.proofs.Laws.{line-start-20}
+use Rattle.laws.proofs.Tests.{by-cases, clash, by-test}
+use Rattle.row.proofs.Laws.{line-start-most}
 use Rattle.moves.specs.Moves.{any, find, left, next, down, moves, move, near1, near2, rank, dist}
 use Rattle.moves.specs.Ways.{leaves, firstByte, pathOf, path}
 use Rattle.moves.proofs.Members.{any-at, find-at, find-in, find-none}
@@ -89,7 +89,7 @@ two-first a b n h =
     let e : near1 (move m a) b ≡ true = find-at (λ k. near1 (move k a) b) moves 0 h in
     let i : any (eqb m) moves ≡ true = find-in (λ k. near1 (move k a) b) moves 0 h in
     any-at (leaves 1 a b) moves m i
-    (split (eqb (move m a) b) (λ z. clash (any-at (λ k. eqb (move k a) b) moves m i z) n)
+    (by-cases (eqb (move m a) b) (λ z. clash (any-at (λ k. eqb (move k a) b) moves m i z) n)
     (λ z. eq-eqb _ _ (dist-one (move m a) b z e)))
 
 pub first : (n a b : ℕ) → dist a b ≡ suc n → n < 2 → any (leaves n a b) moves ≡ true
@@ -107,29 +107,29 @@ pub first-byte : (n a b : ℕ) → dist a b ≡ suc n
 unfolding firstByte leaves
 first-byte n a b h =
     let f = firstByte n a b in
-    split (any (leaves n a b) moves) (λ e. let i = find-in (leaves n a b) moves 0x1B e in
+    by-cases (any (leaves n a b) moves) (λ e. let i = find-in (leaves n a b) moves 0x1B e in
     inl (
-      split (eqb f 0x1B) (λ z. clash i (ap (λ (m : ℕ). any (eqb m) moves) (eqb-true f 0x1B z))) (λ z. z),
+      by-cases (eqb f 0x1B) (λ z. clash i (ap (λ (m : ℕ). any (eqb m) moves) (eqb-true f 0x1B z))) (λ z. z),
       i,
       eqb-true _ _ (find-at (leaves n a b) moves 0x1B e),
     ))
     (λ e. inr (
       eq-eqb (firstByte n a b) 0x1B (find-none (leaves n a b) moves 0x1B e),
-      split (ltb n 2) (λ z. clash (first n a b h (ltb-true n 2 z)) e) (λ z. omega (arith, ltb-false n 2 z, dist-most a b)),
+      by-cases (ltb n 2) (λ z. clash (first n a b h (ltb-true n 2 z)) e) (λ z. omega (arith, ltb-false n 2 z, dist-most a b)),
     ))
 
 -- where a move leads
 pub next-below : (p : ℕ) → p < 40 → next p < 40
 unfolding next
-next-below p h = split (ltb p 39) (λ e. rw e (omega (arith, ltb-true p 39 e))) (λ e. rw e (omega arith))
+next-below p h = by-cases (ltb p 39) (λ e. rw e (omega (arith, ltb-true p 39 e))) (λ e. rw e (omega arith))
 
 left-below : (p : ℕ) → p < 40 → left p < 40
 unfolding left
-left-below p h = split (eqb (p % 20) 0) (λ e. rw e (omega arith)) (λ e. rw e (omega arith))
+left-below p h = by-cases (eqb (p % 20) 0) (λ e. rw e (omega arith)) (λ e. rw e (omega arith))
 
 down-below : (p : ℕ) → p < 40 → down p < 40
 unfolding down
-down-below p h = split (ltb p 20) (λ e. rw e (omega (arith, ltb-true p 20 e))) (λ e. rw e (omega arith))
+down-below p h = by-cases (ltb p 20) (λ e. rw e (omega (arith, ltb-true p 20 e))) (λ e. rw e (omega arith))
 
 either-below : (b : Bool) (x y : ℕ) → x < 40 → y < 40 → cond b x y < 40
 either-below b x y hx hy = by-test (λ (n : ℕ). n < 40) b (λ _. hx) (λ _. hy)
@@ -139,9 +139,9 @@ unfolding move
 move-below m p h =
     either-below (eqb m 8) _ _ (left-below p h)
     (either-below (eqb m 9) _ _ (next-below p h)
-    (either-below (eqb m 10) _ _ (down-below p h) (either-below (eqb m 12) _ _ (omega arith) (omega (arith, line-start-20 p)))))
+    (either-below (eqb m 10) _ _ (down-below p h) (either-below (eqb m 12) _ _ (omega arith) (omega (arith, line-start-most p)))))
 
--- 09h leads on, and so many of them as far as there are places
+-- 09h leads one place on, and d of them d places, while there are any
 pub next-up : (p : ℕ) → p < 39 → next p ≡ p + 1
 unfolding next
 next-up p h = rw (lt-ltb p 39 h)
@@ -176,11 +176,11 @@ length-path a b = path-length (dist a b) a b refl
 -- what holds of each move byte
 pub each-move : (P : ℕ → Type 0) → P 8 → P 9 → P 10 → P 12 → P 13 → (m : ℕ) → any (eqb m) moves ≡ true → P m
 each-move P h8 h9 h10 h12 h13 m i =
-    split (eqb m 8) (λ e. subst P (sym (eqb-true m 8 e)) h8)
-    (λ e8. split (eqb m 9) (λ e. subst P (sym (eqb-true m 9 e)) h9)
-    (λ e9. split (eqb m 10) (λ e. subst P (sym (eqb-true m 10 e)) h10)
-    (λ e10. split (eqb m 12) (λ e. subst P (sym (eqb-true m 12 e)) h12)
-    (λ e12. split (eqb m 13) (λ e. subst P (sym (eqb-true m 13 e)) h13)
+    by-cases (eqb m 8) (λ e. subst P (sym (eqb-true m 8 e)) h8)
+    (λ e8. by-cases (eqb m 9) (λ e. subst P (sym (eqb-true m 9 e)) h9)
+    (λ e9. by-cases (eqb m 10) (λ e. subst P (sym (eqb-true m 10 e)) h10)
+    (λ e10. by-cases (eqb m 12) (λ e. subst P (sym (eqb-true m 12 e)) h12)
+    (λ e12. by-cases (eqb m 13) (λ e. subst P (sym (eqb-true m 13 e)) h13)
     (λ e. clash i (rw (e8, e9, e10, e12, e)))))))
 
 pub path-most : (a b : ℕ) → length (path a b) ≤ 3

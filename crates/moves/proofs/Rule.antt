@@ -6,7 +6,7 @@ use Prim.Native.Nat.{ℕ, zero, suc, _+_, _≤_, _<_}
 use native.Mathlib.Omega.{arith}
 use lib.Dec.{eqb}
 use borrow.Author.Tests.{lt-ltb, eqb-true, eqb-false}
-use Rattle.laws.proofs.Tests.{split}
+use Rattle.laws.proofs.Tests.{by-cases}
 use Rattle.moves.specs.Moves.{any, moves, move, dist, fewestOf, leastUpTo, least, Ruled}
 use Rattle.moves.specs.Ways.{firstByte}
 use Rattle.moves.proofs.Moving.{dist-step, dist-most, dist-self, dist-zero, first-byte, each-move, move-below}
@@ -20,7 +20,7 @@ least-at : (f : ℕ → ℕ) (n p : ℕ) → p ≤ n → leastUpTo f n ≤ f p
 unfolding leastUpTo
 least-at f zero p h = let e : p ≡ 0 = omega arith in rw e (omega arith)
 least-at f (suc n) p h =
-    split (eqb p (suc n)) (λ e. rw (eqb-true p (suc n) e) (omega arith))
+    by-cases (eqb p (suc n)) (λ e. rw (eqb-true p (suc n) e) (omega arith))
     (λ e. omega (arith, least-at f n p (omega (arith, eqb-false p (suc n) e))))
 
 -- and at least what is at most each

@@ -8,7 +8,7 @@ use native.Mathlib.Omega.{arith}
 use lib.Dec.{eqb, ltb, leb}
 use lib.ListN.{length}
 use borrow.Author.Tests.{eqb-true, eqb-false, eq-eqb, leb-true, le-leb, lt-ltb}
-use Rattle.laws.proofs.Tests.{split, clash, both}
+use Rattle.laws.proofs.Tests.{by-cases, clash, both}
 use Rattle.moves.specs.Moves.{any, find, moves, move, dist}
 use Rattle.moves.specs.Ways.{leaves, firstByte, pathOf, path, Jump, none, escape, place, leadsTo, atMost, Shortest}
 use Rattle.moves.proofs.Moving.{dist-step, dist-most, dist-self, dist-zero, first-byte, each-move, length-path}
@@ -25,7 +25,7 @@ move-fewest [] none a b h = rw (eqb-true a b h, dist-self b) (omega arith)
 move-fewest [] escape a b h = clash h refl
 move-fewest [] place a b h = clash h refl
 move-fewest (x ∷ xs) none a b h =
-    split (eqb x 0x1B) (λ e. omega (arith, move-fewest xs escape a b (rw e at h)))
+    by-cases (eqb x 0x1B) (λ e. omega (arith, move-fewest xs escape a b (rw e at h)))
     (λ e. let o = both (any (eqb x) moves) _ (rw e at h) in
     omega (arith, dist-step x a b (o .0), move-fewest xs none (move x a) b (o .1)))
 move-fewest (x ∷ xs) escape a b h = omega (arith, move-fewest xs place a b (both (eqb x 0x48) _ h .1))
@@ -43,17 +43,17 @@ rising (y ∷ ys) = over y ys && rising ys
 over-at : (y x : ℕ) (xs : List ℕ) → over y xs ≡ true → any (eqb x) xs ≡ true → y ≤ x
 over-at y x [] o m = clash m refl
 over-at y x (z ∷ zs) o m =
-    split (eqb x z) (λ e. omega (arith, eqb-true x z e, leb-true y z (both (leb y z) _ o .0)))
+    by-cases (eqb x z) (λ e. omega (arith, eqb-true x z e, leb-true y z (both (leb y z) _ o .0)))
     (λ e. over-at y x zs (both (leb y z) _ o .1) (rw e at m))
 
 find-least : (f : ℕ → Bool) (xs : List ℕ) (d x : ℕ) → rising xs ≡ true → any (eqb x) xs ≡ true → f x ≡ true → find f xs d ≤ x
 find-least f [] d x r m h = clash m refl
 find-least f (y ∷ ys) d x r m h =
     let o = both (over y ys) _ r in
-    split (f y) (λ e. rw e
-    (split (eqb x y) (λ z. omega (arith, eqb-true x y z)) (λ z. over-at y x ys (o .0) (rw z at m))))
+    by-cases (f y) (λ e. rw e
+    (by-cases (eqb x y) (λ z. omega (arith, eqb-true x y z)) (λ z. over-at y x ys (o .0) (rw z at m))))
     (λ e. rw e
-    (split (eqb x y) (λ z. clash h (ap f (eqb-true x y z) ∙ e))
+    (by-cases (eqb x y) (λ z. clash h (ap f (eqb-true x y z) ∙ e))
     (λ z. find-least f ys d x (o .1) (rw z at m) h)))
 
 below-esc : (m : ℕ) → any (eqb m) moves ≡ true → m < 0x1B
@@ -90,7 +90,7 @@ smallest (suc n) a b [] d h l = absurd (omega arith)
 smallest (suc n) a b (x ∷ xs) d h l =
     let f = firstByte n a b in
     let on = pathOf n (move f a) b in
-    split (eqb x 0x1B)
+    by-cases (eqb x 0x1B)
     (λ e. ⊎-elim
     (λ r. rw (r .0) (less-head f x on xs (omega (arith, eqb-true x 0x1B e, below-esc f (r .1)))))
     (λ r. rw (r .0) (only-jump a b x xs (eqb-true x 0x1B e) (omega (arith, r .1)) (rw e at h)))
@@ -102,7 +102,7 @@ smallest (suc n) a b (x ∷ xs) d h l =
     let c : dist (move x a) b ≡ n = omega (arith, dist-step x a b i, move-fewest xs none (move x a) b t) in
     let v : f ≤ x = find-least (leaves n a b) moves 0x1B x refl i (leaves-at n a b x c) in
     ⊎-elim
-    (λ r. rw (r .0) (split (eqb f x)
+    (λ r. rw (r .0) (by-cases (eqb f x)
     (λ z. let g = eqb-true f x z in
     same-head f x on xs g (rw g (smallest n (move x a) b xs c t (omega arith))))
     (λ z. less-head f x on xs (omega (arith, eqb-false f x z)))))

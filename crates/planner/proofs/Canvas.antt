@@ -8,7 +8,7 @@ use Prim.Native.Nat.{ℕ, suc, _≤_}
 use lib.Dec.{eqb, leb}
 use lib.ListN.{getD, set}
 use borrow.Author.Tests.{eqb-true, leb-true}
-use Rattle.laws.proofs.Tests.{split, both}
+use Rattle.laws.proofs.Tests.{by-cases, both}
 use Rattle.moves.specs.Moves.{any, moves, move, next}
 use Rattle.planner.specs.Fonts.{wrongCell}
 
@@ -90,16 +90,16 @@ module _ (switching mark : Bool) (chars : ℕ → Bool) where
       → P (stepAt none p f cs fs b) (lowAt none p lo b)
   unfolding stepAt allowed lowAt
   by-kind P p lo f cs fs b a write esc move on off1 off0 =
-      split (chars b) (λ e. rw e (write e (leb-true lo p (rw e at a))))
+      by-cases (chars b) (λ e. rw e (write e (leb-true lo p (rw e at a))))
       (λ e. rw e
-      (split (eqb b 0x1B) (λ z. rw z (esc e (eqb-true b 0x1B z)))
+      (by-cases (eqb b 0x1B) (λ z. rw z (esc e (eqb-true b 0x1B z)))
       (λ z. rw z
-      (split (any (eqb b) moves) (λ m. rw m (move e m))
+      (by-cases (any (eqb b) moves) (λ m. rw m (move e m))
       (λ m.
       let o = rw (e, z, m) at a in
       let s : switching ≡ true = both switching _ o .0 in
       rw m
-      (split (eqb b 0x19) (λ y. rw y (on e s (eqb-true b 0x19 y)))
+      (by-cases (eqb b 0x19) (λ y. rw y (on e s (eqb-true b 0x19 y)))
       (λ y.
       let t : b ≡ 0x18 = eqb-true b 0x18 (rw (y, or-false) at (both switching _ o .1)) in
-      rw y (split mark (λ k. rw k (off1 e s t k)) (λ k. rw k (off0 e s t k))))))))))
+      rw y (by-cases mark (λ k. rw k (off1 e s t k)) (λ k. rw k (off0 e s t k))))))))))

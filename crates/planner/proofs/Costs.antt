@@ -10,7 +10,7 @@ use native.Mathlib.Omega.{arith}
 use lib.Dec.{eqb}
 use lib.ListN.{length, length-append, getD}
 use borrow.Author.Tests.{eqb-true, eqb-false, eq-eqb, ne-eqb}
-use Rattle.laws.proofs.Tests.{split, by-equal}
+use Rattle.laws.proofs.Tests.{by-cases, by-equal}
 use Rattle.moves.specs.Moves.{next, move, dist}
 use Rattle.planner.specs.Plan.{flagged}
 use Rattle.planner.specs.Fonts.{switch, fontsPlanOf}
@@ -42,7 +42,7 @@ unfolding flagged
 flagged-length w zero i = omega arith
 flagged-length w (suc n) i =
     let l = flagged-length w n (suc i) in
-    split (w i) (λ e. rw (flagged-yes w n i e) (omega (arith, l))) (λ e. rw (flagged-no w n i e) (omega (arith, l)))
+    by-cases (w i) (λ e. rw (flagged-yes w n i e) (omega (arith, l))) (λ e. rw (flagged-no w n i e) (omega (arith, l)))
 
 -- p is the first flagged place of w, and v is w with p taken away
 pub flagged-cons : (w v : ℕ → Bool) (n i p : ℕ) → i ≤ p → p < i + n → ((j : ℕ) → j < p → w j ≡ false) → w p ≡ true → v p ≡ false
@@ -50,7 +50,7 @@ pub flagged-cons : (w v : ℕ → Bool) (n i p : ℕ) → i ≤ p → p < i + n 
 unfolding flagged
 flagged-cons w v zero i p h l nw wp vp o = absurd (omega arith)
 flagged-cons w v (suc n) i p h l nw wp vp o =
-    split (eqb i p) (λ e. let q = eqb-true i p e in
+    by-cases (eqb i p) (λ e. let q = eqb-true i p e in
     rw (q, wp, vp) (ap {B = List ℕ} (λ r. p ∷ r) (flagged-same w v n (suc p) (λ j k l. sym (o j (omega arith))))))
     (λ e. let q = eqb-false i p e in
     let z = nw i (omega (arith, q)) in
@@ -84,7 +84,7 @@ module _ {S : Type 0} (D : S → ℕ → ℕ) (E : S → ℕ) (after : ℕ → S
   put-total k p s t w v hp near at far end r o =
       let first : (j : ℕ) → j < p → w j ≡ false = λ j l. sym (o j (omega arith)) ∙ r j (omega arith) in
       let here : v p ≡ false = r p (omega arith) in
-      split (w p)
+      by-cases (w p)
       (λ e. rw (flagged-cons w v 40 0 p (omega arith) (omega arith) first e here o, at) (omega arith))
       (λ e.
       let alike : (j : ℕ) → w j ≡ v j = λ j. by-equal j p (λ y. ap w y ∙ e ∙ sym here ∙ ap v (sym y)) (λ n. sym (o j n)) in
@@ -99,7 +99,7 @@ pub move-bound : (q : ℕ) (w : ℕ → Bool) (n i p : ℕ) → i + n ≡ 40 →
 unfolding flagged total
 move-bound q w zero i p e l = omega (arith, dist-most p q)
 move-bound q w (suc n) i p e l =
-    split (w i)
+    by-cases (w i)
     (λ z. let b = move-bound q w n (suc i) (suc i) (omega arith) (omega arith) in
     rw (flagged-yes w n i z) (omega (arith, dist-along p i l (omega arith), last q w n i (omega arith) b)))
     (λ z. rw (flagged-no w n i z) (move-bound q w n (suc i) p (omega arith) (omega arith)))
@@ -146,9 +146,9 @@ back-some false = omega arith
 pub switch-on : (e : Bool) (f h : ℕ) → length (switch e f h) ≤ 1 + length (switch e 1 h)
 unfolding switch
 switch-on e f h =
-    split (eqb f h) (λ z. rw z (omega arith))
+    by-cases (eqb f h) (λ z. rw z (omega arith))
     (λ z.
-    split (eqb h 1) (λ y. rw (z, y) (omega arith))
+    by-cases (eqb h 1) (λ y. rw (z, y) (omega arith))
     (λ y. rw (z, y, ne-eqb 1 h (λ i. eqb-false h 1 y (sym i))) (omega arith)))
 
 -- the longest is 18h with what it takes

@@ -6,7 +6,7 @@ use Prim.Native.Nat.{ℕ, zero, suc, _+_, _≤_, _<_}
 use native.Mathlib.Omega.{arith}
 use lib.Dec.{eqb}
 use lib.ListN.{length, getD, replicate, length-replicate, getD-replicate}
-use Rattle.laws.proofs.Tests.{split}
+use Rattle.laws.proofs.Tests.{by-cases}
 use Rattle.condition.specs.declared.Condition.{Condition}
 use Rattle.condition.specs.Set.{withPending}
 use Rattle.condition.specs.Bytes.{isChar, runOf}
@@ -119,7 +119,7 @@ module _ (e : Bool) (ws : List ℕ) (font : ℕ → ℕ) (w : ℕ → Bool) (q f
   plain (suc n) i p h =
       let rest : (r : ℕ) → planOf ws q r (flagged w n (suc i)) ≡ fontsPlanOf e ws font q r f (flagged w n (suc i)) =
       λ r. plain n (suc i) r (λ j l. h j (omega arith)) in
-      split (w i)
+      by-cases (w i)
       (λ y. rw (flagged-yes w n i y, h i (omega arith), switch-none e f)
       (ap (λ (t : List ℕ). path p i ++ getD ws i 0 ∷ t) (rest (next i))))
       (λ y. rw (flagged-no w n i y) (rest p))

@@ -9,7 +9,7 @@ use lib.Dec.{eqb, leb}
 use lib.ListN.{length, getD, set, length-set}
 use lib.Seq.{getD-set-same, getD-set-other, ext-getD}
 use borrow.Author.Tests.{eqb-true, eqb-false, eq-eqb, leb-true, le-leb, not-false}
-use Rattle.laws.proofs.Tests.{split, clash, both, by-equal}
+use Rattle.laws.proofs.Tests.{by-cases, clash, both, by-equal}
 use Rattle.moves.specs.Moves.{any, next, moves, move, dist}
 use Rattle.moves.specs.Ways.{path, pathOf, firstByte}
 use Rattle.planner.proofs.Canvas.{Part, none, escape, place, back, Canvas, canvas, whole, wrongIn}
@@ -218,7 +218,7 @@ module _ (switching mark : Bool) (chars : ℕ → Bool) (Ok : ℕ → Type 0) (f
           let here : v i ≡ false =
           wrong-same font ws cs fs i b (font i) (omega arith) (omega arith)
           ∙ rw (eq-eqb b b refl, eq-eqb (font i) (font i) refl) in
-          split (w i)
+          by-cases (w i)
           (λ z. rw (flagged-yes w n i z, flagged-same w v n (suc i) (λ j m r. sym (alike j (omega arith))))
           (walk-paints (dist p i) p i lo f cs fs _ refl (omega arith)
           (switches f (font i) i lo cs fs _ k (fonts-ok i (omega arith))
@@ -249,7 +249,7 @@ module _ (mark : Bool) (chars : ℕ → Bool) (font : ℕ → ℕ) (ws : List �
       → Gets f p lo cs fs (cond mark (0x18 ∷ 0x1A ∷ []) (0x18 ∷ []) ++ t)
   unfolding stepAt allowed lowAt
   back-paints f p lo cs fs t z =
-      split mark
+      by-cases mark
       (λ e.
       record { steps = rw (e, free18, free1A) (rw e at (z .steps)); final = rw (e, free18) (rw e at (z .final)) })
       (λ e. record { steps = rw (e, free18) (rw e at (z .steps)); final = rw (e, free18) (rw e at (z .final)) })
@@ -257,9 +257,9 @@ module _ (mark : Bool) (chars : ℕ → Bool) (font : ℕ → ℕ) (ws : List �
   pub switches-both : Switches true mark chars (λ h. h ≤ 1) font ws q
   unfolding switch
   switches-both f h p lo cs fs t lf lh z =
-      split (eqb f h) (λ e. rw (e, eqb-true f h e) z)
+      by-cases (eqb f h) (λ e. rw (e, eqb-true f h e) z)
       (λ e.
-      split (eqb h 1) (λ y. rw (e, y) (on-paints f p lo cs fs t (rw (eqb-true h 1 y) at z)))
+      by-cases (eqb h 1) (λ y. rw (e, y) (on-paints f p lo cs fs t (rw (eqb-true h 1 y) at z)))
       (λ y. let w : h ≡ 0 = omega (arith, eqb-false h 1 y) in
       rw (e, y) (back-paints f p lo cs fs t (rw w at z))))
 

@@ -7,14 +7,14 @@ use native.Mathlib.Omega.{arith}
 use lib.Dec.{eqb, ltb, leb}
 use lib.ListN.{length, getD, replicate}
 use lib.Seq.{take-append-seam}
-use borrow.Author.Tests.{eqb-true, ne-eqb, ltb-false, leb-true, le-leb, not-false}
-use Rattle.laws.proofs.Tests.{split, clash, both, neither, passed}
+use borrow.Author.Tests.{eqb-true, ne-eqb, ltb-false, leb-true, not-false}
+use Rattle.laws.proofs.Tests.{by-cases, clash, both, neither, passed}
 use Rattle.users.specs.declared.Users.{Users}
 use Rattle.users.specs.Users.{isUser}
 use Rattle.condition.specs.declared.Condition.{Condition}
 use Rattle.condition.specs.Condition.{idle, wellFormed, allUpTo}
 use Rattle.condition.specs.Bytes.{isChar}
-use Rattle.condition.proofs.Characters.{no-char}
+use Rattle.condition.proofs.Characters.{plain-char, user-char, no-char}
 use Rattle.condition.proofs.Good.{good}
 use Rattle.condition.proofs.Ranges.{up-to-at}
 use Rattle.moves.specs.Moves.{any, moves}
@@ -86,21 +86,19 @@ free u e =
     record { at08 = n1 .0; at09 = n1 .1; at0A = n2 .1; at0C = n3 .1; at0D = n4 .1; at1B = n5 .1 }
 
 moves-free : (c : Condition) → Free (c .users) → (b : ℕ) → any (eqb b) moves ≡ true → isChar c b ≡ false
-unfolding isChar
-moves-free c f = each-move (λ b. isChar c b ≡ false) (rw (f .at08)) (rw (f .at09)) (rw (f .at0A)) (rw (f .at0C)) (rw (f .at0D))
+moves-free c f =
+    each-move (λ b. isChar c b ≡ false) (no-char c 0x08 (f .at08) (omega arith)) (no-char c 0x09 (f .at09) (omega arith))
+    (no-char c 0x0A (f .at0A) (omega arith)) (no-char c 0x0C (f .at0C) (omega arith)) (no-char c 0x0D (f .at0D) (omega arith))
 
 escape-free : (c : Condition) → Free (c .users) → isChar c 0x1B ≡ false
-unfolding isChar
-escape-free c f = rw (f .at1B)
+escape-free c f = no-char c 0x1B (f .at1B) (omega arith)
 
 -- 9 is not given: each wanted code can be shown
 shows : (c : Condition) (w : ℕ) → lacks (c .users) w ≡ false → isChar c w ≡ true
-unfolding lacks isChar
+unfolding lacks
 shows c w e =
-    split (isUser (c .users) w) (λ h. rw h)
-    (λ h.
-    split (ltb w 0x20) (λ l. clash refl (rw (l, h) at e))
-    (λ l. rw (h, le-leb 0x20 w (ltb-false w 0x20 l))))
+    by-cases (isUser (c .users) w) (λ h. user-char c w h)
+    (λ h. by-cases (ltb w 0x20) (λ l. clash refl (rw (l, h) at e)) (λ l. plain-char c w (ltb-false w 0x20 l)))
 
 all-show : (c : Condition) (ws : List ℕ) → someLacks (c .users) ws ≡ false → (i : ℕ) → i < length ws → isChar c (getD ws i 0) ≡ true
 unfolding someLacks

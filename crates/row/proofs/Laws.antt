@@ -1,4 +1,4 @@
--- What a pull, a fill and a copy make of the places, turn by turn and in the end.
+-- What a pull, a fill and a copy make of the places, turn by turn and in the end; what is laid over a row; and sizes.
 use Prim.Native.Nat.{ℕ, suc, _+_, _-_, _≤_, _<_, min}
 use native.Mathlib.Nat.{zero-min, min-zero, suc-min-suc}
 use mathlib.Core.Path.{_≡_, ap, sym, _∙_}
@@ -11,7 +11,7 @@ use lib.Seq.{paste, paste-suc, drop-paste, getD-drop, take-all, drop-cons, set-a
 use lib.Seq.{take-suc, take-nil, drop-nil, drop-length, append-snoc, length-take-le}
 use lib.Dec.{leb, ltb}
 use borrow.Author.Tests.{leb-true, leb-false, eq-eqb}
-use Rattle.laws.proofs.Tests.{split, by-test}
+use Rattle.laws.proofs.Tests.{by-cases, by-test}
 use Rattle.row.specs.Row.{lineStart, scrolled, shifted, onPicture, advanced, laid}
 
 -- a turn of a loop that pastes
@@ -104,7 +104,7 @@ advance-short a by h =
 pub laid-law : (d s : List ℕ) (n : ℕ) → n ≡ min (length d) (length s) → take n s ++ drop n d ≡ laid s d
 unfolding laid
 laid-law d s n e =
-    split (leb (length d) (length s))
+    by-cases (leb (length d) (length s))
     (λ h. let l : length d ≤ length s = leb-true (length d) (length s) h in
     let k : n ≡ length d = omega arith in
     rw (k, drop-length d, drop-of-length-le d l))
@@ -139,9 +139,9 @@ laid-both (b ∷ x) y (z ∷ s) = rw (suc-min-suc (length x) (length s)) (ap (λ
 
 -- Sizes --------------------------------------------------------------------------------------------------------------------------
 
-pub line-start-20 : (at : ℕ) → lineStart at ≤ 20
+pub line-start-most : (at : ℕ) → lineStart at ≤ 20
 unfolding lineStart
-line-start-20 at = by-test (λ (n : ℕ). n ≤ 20) (ltb at 20) (λ _. omega arith) (λ _. omega arith)
+line-start-most at = by-test (λ (n : ℕ). n ≤ 20) (ltb at 20) (λ _. omega arith) (λ _. omega arith)
 
 pub scrolled-40 : (v : ℕ) (a : List ℕ) → length a ≡ 40 → length (scrolled v a) ≡ 40
 unfolding scrolled

@@ -7,7 +7,7 @@ use native.Mathlib.Omega.{arith}
 use lib.Dec.{eqb, leb}
 use lib.ListN.{length, take}
 use borrow.Author.Tests.{eq-eqb, ne-eqb, leb-true}
-use Rattle.laws.proofs.Tests.{split, by-equal}
+use Rattle.laws.proofs.Tests.{by-cases, by-equal}
 use Rattle.condition.specs.declared.Condition.{Condition}
 use Rattle.condition.specs.declared.Outcome.{Outcome}
 use Rattle.condition.specs.Condition.{wellFormed, powerUp, powerUpAnswer}
@@ -153,7 +153,7 @@ pub power-up-refused : (font : ℕ) (out : List ℕ) (g : Outcome) → g ≡ pow
     → HostPowerUp font out (g .refusal) out
 unfolding hostPowerUpRefusal hostPowerUpOut
 power-up-refused font out g e bad =
-    split (leb font 1) (λ h. absurd (bad (ap (λ (o : Outcome). o .refusal) (e ∙ powered font h))))
+    by-cases (leb font 1) (λ h. absurd (bad (ap (λ (o : Outcome). o .refusal) (e ∙ powered font h))))
     (λ h. let three = ap (λ (o : Outcome). o .refusal) (e ∙ unpowered font h) in
     record { answer = simp h three; buffer = simp h; again = λ z. absurd (bad z) })
 
@@ -172,7 +172,7 @@ power-up-out font out r left h w =
 pub power-up-written : (font : ℕ) (out : List ℕ) (g : Outcome) (r : Written) (left : List ℕ) → g ≡ powerUpAnswer font
     → g .refusal ≡ 0 → WritePromise (g .condition) out r left → HostPowerUp font out (r .refusal) left
 power-up-written font out g r left e good w =
-    split (leb font 1)
+    by-cases (leb font 1)
     (λ h. power-up-out font out r left h (rw (ap (λ (o : Outcome). o .condition) (e ∙ powered font h)) at w))
     (λ h. let three : g .refusal ≡ 3 = ap (λ (o : Outcome). o .refusal) (e ∙ unpowered font h) in absurd (omega arith))
 

@@ -1,7 +1,8 @@
 use mathlib.Core.Path.{_≡_, refl, sym, ap, _∙_}
-use mathlib.Core.Bool.{true, false}
+use mathlib.Core.Bool.{true, false, and-false}
 use Prim.Native.Nat.{_+_, _*_, _-_, _≤_}
 use native.Mathlib.Omega.{arith}
+use lib.Dec.{ltb}
 use lib.ListN.{length, getD, drop, length-drop}
 use borrow.Author.Tests.{lt-ltb, le-ltb, not-true, not-false}
 use Rattle.laws.proofs.Lists.{tail-part}
@@ -38,7 +39,8 @@ returns : tie.Need-returns Inv-loop μ-loop
 returns c =
     let a = c .before .before .before .before .before .before .args in
     let l = c .before .before .before .before .loop in
-    sym (l .inv .0 ∙ users-step (l .left) (a .s .now) (l .at) (omega arith) ∙ rw (le-ltb _ _ (c .if1 .taken)))
+    let high = le-ltb (getD (a .s .now) (l .at + 5) 0) 16 (omega (arith, c .if1 .taken)) in
+    sym (l .inv .0 ∙ users-step (l .left) (a .s .now) (l .at) (omega arith) ∙ rw high)
 
 sub-is-absent : tie.Need-sub-is-absent Inv-loop μ-loop
 sub-is-absent c = omega arith
@@ -61,8 +63,8 @@ returns-2 c =
     let l = c .before .before .before .before .before .before .before .loop in
     let gone : absent (getD (a .s .now) (l .at) 0) (l .left - 1) (drop (l .at + 6) (a .s .now)) ≡ false =
     ap (absent _ _) (sym (tail-part (a .s .now) (l .at + 6))) ∙ sym (c .before .is-absent .ensures) ∙ not-true _ (c .if2 .taken) in
-    let low = lt-ltb _ _ (c .before .before .before .if1 .left) in
-    sym (l .inv .0 ∙ users-step (l .left) (a .s .now) (l .at) (omega arith) ∙ rw (gone, low))
+    let fifth = ltb (getD (a .s .now) (l .at + 5) 0) 16 in
+    sym (l .inv .0 ∙ users-step (l .left) (a .s .now) (l .at) (omega arith) ∙ rw gone (and-false fifth))
 
 loop-less : tie.Need-loop-less Inv-loop μ-loop
 loop-less c = omega arith
@@ -73,7 +75,7 @@ loop-again c =
     let l = c .before .before .before .before .before .before .before .loop in
     let there : absent (getD (a .s .now) (l .at) 0) (l .left - 1) (drop (l .at + 6) (a .s .now)) ≡ true =
     ap (absent _ _) (sym (tail-part (a .s .now) (l .at + 6))) ∙ sym (c .before .is-absent .ensures) ∙ not-false _ (c .if2 .left) in
-    let low = lt-ltb _ _ (c .before .before .before .if1 .left) in
+    let low = lt-ltb _ 16 (c .before .before .before .if1 .left) in
     (l .inv .0 ∙ users-step (l .left) (a .s .now) (l .at) (omega arith) ∙ rw (there, low), omega arith, omega arith)
 
 sub-up-to : tie.Need-sub-up-to Inv-loop μ-loop

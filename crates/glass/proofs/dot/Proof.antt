@@ -12,7 +12,8 @@ returns c = rw (lt-leb 1 (c .before .args .k) (omega (arith, c .if1 .taken)))
 returns-2 : tie.Need-returns-2
 unfolding dotAnswer
 returns-2 c =
-    rw (le-leb 1 _ (c .before .if1 .left), lt-leb (c .before .before .args .k) 35 (omega (arith, c .if2 .taken)))
+    let k = c .before .before .args .k in
+    rw (le-leb 1 k (omega (arith, c .if2 .taken)), lt-leb k 35 (omega (arith, c .if2 .taken)))
 
 lookup-requires : tie.Need-lookup-requires
 lookup-requires c κs = search needs

@@ -1,5 +1,5 @@
 use Rattle.condition.specs.Busy.{controlBusy}
-use Rattle.inplace.proofs.Columns.{tests}
+use Rattle.laws.proofs.Tests.{tests}
 use mathlib.Core.Path.{sym, _∙_}
 use borrow.Author.Needs.{needs}
 use Rattle.inplace.proofs.busy.control_busy.Statement.{statement}

@@ -1,5 +1,5 @@
 use Rattle.condition.specs.Busy.{escapeBusy}
-use Rattle.inplace.proofs.Columns.{tests}
+use Rattle.laws.proofs.Tests.{tests}
 use Rattle.inplace.proofs.busy.escape_busy.Statement.{statement}
 use Rattle.inplace.proofs.busy.escape_busy.Tie as tie
 

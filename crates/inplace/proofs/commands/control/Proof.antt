@@ -1,5 +1,5 @@
 use Rattle.condition.specs.Bytes.{controlOf}
-use Rattle.inplace.proofs.Columns.{tests}
+use Rattle.laws.proofs.Tests.{tests}
 use borrow.Author.Needs.{needs}
 use Rattle.inplace.proofs.commands.control.Statement.{statement}
 use Rattle.inplace.proofs.commands.control.Tie as tie

@@ -1,5 +1,5 @@
 use Rattle.condition.specs.Bytes.{escapeOf}
-use Rattle.inplace.proofs.Columns.{tests}
+use Rattle.laws.proofs.Tests.{tests}
 use borrow.Author.Needs.{needs}
 use Rattle.inplace.proofs.parameters.escape.Statement.{statement}
 use Rattle.inplace.proofs.parameters.escape.Tie as tie
