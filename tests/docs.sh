@@ -119,10 +119,9 @@ missing_places() {
 }
 
 miscrated() {
-    sed -n 's/^| `\([a-z_]*\)` |.*/\1/p' README.md >"$work/told"
-    sed -n 's/^\([a-z_]*\):.*/\1/p' crates.txt >"$work/crates"
-    sort "$work/told" >"$work/told.sorted"
-    sort "$work/crates" | comm -3 - "$work/told.sorted" | sed 's/[[:space:]]//g; s/.*/README.md: the crate & is not both there and in crates.txt/'
+    sed -n 's/^| `\([a-z_]*\)` |.*/\1/p' README.md | sort >"$work/told"
+    sed -n 's/^\([a-z_]*\):.*/\1/p' crates.txt | sort | comm -3 - "$work/told" |
+        sed 's/[[:space:]]//g; s/.*/README.md: the crate & is not both there and in crates.txt/'
 }
 
 # An edit of a contract in src/ is one of a definition: it names the logic's own signs. A proof that follows the code
@@ -133,7 +132,10 @@ miscounted() {
         for file in $(sed -n 's/^file: //p' "$edit"); do
             case $file in
             src/* | specs/*) ;;
-            *) grep -q 'a walk of its MIR, by hand' "${edit%/must-fail/*}/$file" || echo "$edit: $file is neither code nor a definition" ;;
+            *)
+                grep -q 'a walk of its MIR, by hand' "${edit%/must-fail/*}/$file" ||
+                    echo "$edit: $file is neither code nor a definition"
+                ;;
             esac
         done
         defined=$(grep -cE '^file: specs/|^old: .*(⌜|⌝|≡|now \()' "$edit" || true)
@@ -148,9 +150,9 @@ miscounted() {
             both=$((both + 1))
         fi
     done
-    said="$((code + walked + definition + both)) edits: $code of the code alone, $walked of the code and the walk that is its proof,
-$definition of a definition alone, $both of code and definition"
-    tr '\n' ' ' <docs/PROMISES.md | grep -qF "$(echo "$said" | tr '\n' ' ' | sed 's/ $//')" || echo "docs/PROMISES.md: it should say \"$said\""
+    said="$((code + walked + definition + both)) edits: $code of the code alone, $walked of the code and the walk"
+    said="$said that is its proof, $definition of a definition alone, $both of code and definition"
+    tr '\n' ' ' <docs/PROMISES.md | grep -qF "$said" || echo "docs/PROMISES.md: it should say \"$said\""
 }
 
 misrun() {

@@ -2,7 +2,9 @@
 # Tries the wrong programs crates/*/must-fail/*.slip, each over what was proved of its crate: tests/wrong.sh [CRATE..]
 # `rt ci` tries those that end in .edit by a check of their whole crate. Here a crate is checked once, and then only what
 # an edit changes is checked anew (`rt dev`). What is not checked anew was proved, so a refusal is a refusal. Wrong is a
-# slip that is proved, that is no program or no definition, or that does not fit the code. Two crates are tried at a time.
+# slip that is proved, that is no program or no definition, that has another shape than the code, so that its proof does
+# not fit, or whose old text is not there. A slip may say at which line it is to be refused, `at: TEXT`. Two crates are
+# tried at a time.
 set -eu
 cd "$(dirname "$0")/.."
 root=$PWD
@@ -34,7 +36,7 @@ apply() {
         END { if (!failed && !pairs) fail("it changes nothing"); exit failed }' "$1"
 }
 
-# first LOG: where the prover stopped first, and why. (That something "was not admitted" follows from another place.)
+# first LOG: what the prover said first, with its place. (That something "was not admitted" follows from another place.)
 first() {
     grep -E "^(note: )?$here/crates/$name/[^ ]*:[0-9]+:[0-9]+: " "$1" | grep -v 'was not admitted' | head -n 1 |
         sed "s|^note: ||; s|^$here/crates/$name/||"
@@ -45,16 +47,27 @@ judge() {
     log=$here/$(basename "$1" .slip).log
     if rt dev "$name" >"$log" 2>&1; then
         echo "wrong: FAILED: $2 is proved: it is not wrong, or no contract says so"
+        return 1
     elif ! grep -q '^logic=not-proved' "$log"; then
         echo "wrong: FAILED: $2 is no program: $(grep -m 1 'error: ' "$log" || tail -n 1 "$log")"
-    else
-        place=$(first "$log")
-        case $place in
-        '') echo "wrong: FAILED: $2: the prover names no place: $log" ;;
-        specs/*) echo "wrong: FAILED: $2 is no definition: $place" ;;
-        *) echo "wrong: $2 is refused, first at ${place%%: *}" && return ;;
-        esac
+        return 1
     fi
+    said=$(first "$log")
+    place=${said%%: *}
+    line=$(echo "$place" | cut -d : -f 2)
+    due=$(sed -n 's/^at: //p' "$1")
+    case $said in
+    '') echo "wrong: FAILED: $2: the prover names no place: $log" ;;
+    specs/*) echo "wrong: FAILED: $2 is no definition: $said" ;;
+    *Need-*) echo "wrong: FAILED: $2 has another shape: $said" ;;
+    *)
+        if [ -z "$due" ] || sed -n "${line}p" "crates/$name/${place%%:*}" | grep -qF "$due"; then
+            echo "wrong: $2 is refused, first at $place"
+            return
+        fi
+        echo "wrong: FAILED: $2 is not refused first at $due: $said"
+        ;;
+    esac
     return 1
 }
 
@@ -92,7 +105,7 @@ try_crate() {
 }
 
 case ${1:-} in
---one) try_crate "$2" && exit || exit 1 ;;
+--one) try_crate "$2"; exit ;;
 esac
 [ $# -gt 0 ] || set -- $(ls crates/*/must-fail/*.slip | cut -d / -f 2 | uniq)
 for name; do
@@ -106,5 +119,5 @@ if ! rt check "$@" >"$work/check.log" 2>&1; then
 fi
 # Those that are checked longest first.
 printf '%s\n' "$@" | while read -r name; do echo "$(find "crates/$name/proofs" -name Proof.antt | wc -l) $name"; done |
-    sort -rn | cut -d ' ' -f 2 | xargs -n 1 -P 2 "$0" --one
+    sort -rn | cut -d ' ' -f 2 | xargs -n 1 -P 2 "$root/tests/wrong.sh" --one
 echo "wrong: $(for name; do ls "crates/$name/must-fail"/*.slip; done | wc -l) slips are refused"
