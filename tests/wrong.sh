@@ -36,10 +36,11 @@ apply() {
         END { if (!failed && !pairs) fail("it changes nothing"); exit failed }' "$1"
 }
 
-# first LOG: what the prover said first, with its place. (That something "was not admitted" follows from another place.)
+# first LOG: what the prover said first, with its place. (That something "was not admitted" follows from another place. Of a
+# function without a proof of its own it says in a note what is not proved.)
 first() {
-    grep -E "^(note: )?$here/crates/$name/[^ ]*:[0-9]+:[0-9]+: " "$1" | grep -v 'was not admitted' | head -n 1 |
-        sed "s|^note: ||; s|^$here/crates/$name/||"
+    grep -E "^(note: $here/crates/$name/[^ ]*: |$here/crates/$name/[^ ]*: error: )" "$1" | grep -v 'was not admitted' |
+        head -n 1 | sed "s|^note: ||; s|^$here/crates/$name/||"
 }
 
 # judge SLIP LABEL: the slip, applied, is a program whose proof fails
@@ -59,7 +60,7 @@ judge() {
     case $said in
     '') echo "wrong: FAILED: $2: the prover names no place: $log" ;;
     specs/*) echo "wrong: FAILED: $2 is no definition: $said" ;;
-    *Need-*) echo "wrong: FAILED: $2 has another shape: $said" ;;
+    *Need-* | *': record '*) echo "wrong: FAILED: $2 has another shape: $said" ;; # another need, or no such step
     *)
         if [ -z "$due" ] || sed -n "${line}p" "crates/$name/${place%%:*}" | grep -qF "$due"; then
             echo "wrong: $2 is refused, first at $place"

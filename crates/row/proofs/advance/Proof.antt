@@ -1,4 +1,4 @@
-use mathlib.Core.Path.{refl, _∙_}
+use mathlib.Core.Path.{refl}
 use Rattle.row.proofs.Laws.{advance-law, advance-short}
 use borrow.Author.Needs.{needs}
 use Rattle.row.proofs.advance.Statement.{statement}
@@ -19,7 +19,7 @@ same-length c = search needs
 returns-2 : tie.Need-returns-2
 returns-2 c =
     let a = c .before .before .before .before .before .before .args in
-    c .before .before .pull .ensures ∙ advance-law (a .bytes .now) (a .by) _ (search needs) refl
+    rw (c .before .before .pull .ensures) (advance-law (a .bytes .now) (a .by) _ (search needs) refl)
 
 pub advance-spec : {M : Type 1} → statement M
 advance-spec = tie.close (tie.spec returns sub-n pull-requires same-length returns-2)
