@@ -25,7 +25,7 @@ awk '
         printf "| all | %d s | %d | %d s |\n\n", all_proved, all_tried, all_took
         n = split(library, of, /[: ]+/)
         for (i = 1; i <= n; i++) made += proved[of[i]]
-        print "The library alone (`make`): " made " s. In the test `wrong`: " slips " more wrong programs."
+        print "The proofs of the library alone, added up: " made " s. In the test `wrong`: " slips " more wrong programs."
         print "The tests of the compiled code, with compiling them: " tests "."
         if (missing != "") print "times: the log does not have the proof of" missing > "/dev/stderr"
         if (verdict !~ /, 0 failed$/) print "times: this is no log of a gate that passed: " verdict > "/dev/stderr"
