@@ -35,7 +35,7 @@
 
 enum { TTY_ROOM = 256, BOOT_ROOM = 40, PATH_ROOM = 4096, MOST_PICTURES = 1000, LOOK_MS = 100 };
 enum { IN_DOUBT = 'D', CERTAIN = 'C' };
-enum { MOST_US = 65, FLICKERLESS_US = 200 }; /* busy time: the most; more where flickerless is on */
+enum { MOST_US = 265 }; /* the longest that the module is busy with any byte, flickerless or not */
 
 /* What is kept of a sign, as it stands in STATE: bytes only, so there are no gaps. */
 struct state {
@@ -78,8 +78,10 @@ static uint32_t run(struct state *s, const uint8_t *bytes, size_t n) {
     return sign_run(s->block, SIGN_BLOCK, s->tally, SIGN_TALLY, bytes, n);
 }
 
-static unsigned long busy(const struct state *s) {
-    return sign_tally_number(s->tally, SIGN_NUMBER_BUSY);
+/* How long the module is busy at the worst with all that was run: what another run adds to it is the
+   time to leave behind its bytes. */
+static unsigned long worst(const struct state *s) {
+    return sign_tally_number(s->tally, SIGN_NUMBER_WORST);
 }
 
 static void wait_us(unsigned long us) {
@@ -168,17 +170,15 @@ static void open_wire(void) {
     if ((t.c_oflag & OPOST) || (t.c_iflag & IXON)) END("%s does not take raw bytes", sign.tty);
 }
 
-/* Runs bytes on a copy of what we keep, one at a time, and notes how long the module needs for
-   each. In doubt that is not known: it gets the most. Answers 0 or the refusal. */
+/* Runs bytes on a copy of what we keep, one at a time, and notes how long the module may need for
+   each. In doubt the block does not know: it gets the most. Answers 0 or the refusal. */
 static uint32_t run_on(struct state *copy, const uint8_t *bytes, size_t n, unsigned long *pause) {
     *copy = sign;
     for (size_t i = 0; i < n; i++) {
-        int flickerless = copy->block[SIGN_FLICKERLESS_AT];
-        unsigned long before = busy(copy);
+        unsigned long before = worst(copy);
         uint32_t refusal = run(copy, bytes + i, 1);
         if (refusal != SIGN_ACCEPTED) return refusal;
-        pause[i] = (doubt ? MOST_US : busy(copy) - before)
-                 + (doubt || flickerless ? FLICKERLESS_US : 0);
+        pause[i] = doubt ? MOST_US : worst(copy) - before;
     }
     return SIGN_ACCEPTED;
 }
@@ -192,8 +192,8 @@ static void to_the_wire(const uint8_t *bytes, size_t n) {
     if (n > SIGN_ROOM) END("more bytes than a plan has");
     uint32_t refusal = run_on(&copy, bytes, n, pause);
     if (refusal == SIGN_TALLY_FULL) {
-        SAY("the tally starts again at 0; it was: bytes %lu, busy %lu us",
-            (unsigned long)sign_tally_number(sign.tally, SIGN_NUMBER_BYTES), busy(&sign));
+        SAY("the tally starts again at 0; it was: bytes %lu, busy %lu us at the worst",
+            (unsigned long)sign_tally_number(sign.tally, SIGN_NUMBER_BYTES), worst(&sign));
         memset(sign.tally, 0, SIGN_TALLY);
         refusal = run_on(&copy, bytes, n, pause);
     }

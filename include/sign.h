@@ -30,11 +30,11 @@ extern "C" {
 #endif
 
 /* The version of the library that this header belongs to. */
-#define SIGN_VERSION_MAJOR 1
-#define SIGN_VERSION_MINOR 1
+#define SIGN_VERSION_MAJOR 2
+#define SIGN_VERSION_MINOR 0
 
 #define SIGN_BLOCK      512   /* bytes of a block */
-#define SIGN_TALLY      12    /* bytes of a tally */
+#define SIGN_TALLY      16    /* bytes of a tally */
 #define SIGN_CELLS      40    /* cells: 0 to 19 top line, 20 to 39 bottom line */
 #define SIGN_ROOM       44    /* bytes that sign_plan wants room for */
 #define SIGN_FONTS_ROOM 104   /* bytes that sign_plan_fonts wants room for */
@@ -60,7 +60,7 @@ extern "C" {
    plan 256 plus the number, a question 65,536 plus the number. */
 enum sign_refusal {
     SIGN_ACCEPTED      = 0,
-    SIGN_WRONG_LENGTH  = 1,  /* block not 512 bytes, tally not 12, codes not 40, fonts not 40 */
+    SIGN_WRONG_LENGTH  = 1,  /* block not 512 bytes, tally not 16, codes not 40, fonts not 40 */
     SIGN_DAMAGED       = 2,  /* the block's bytes 0-2 or its check differ: no block, or damaged */
     SIGN_OUT_OF_RANGE  = 3,  /* the block is no condition that a sign can be in; a tally number is
                                 above 4,000,000,000; the asked cursor or position is above 39; a
@@ -111,10 +111,11 @@ enum sign_half {
    change. */
 uint32_t sign_power_up(uint32_t font, uint8_t *block, size_t block_len);
 
-/* Does to the block what the module does with these bytes in turn, and adds to the tally: three
+/* Does to the block what the module does with these bytes in turn, and adds to the tally: four
    numbers of four bytes, low byte first: the bytes received, the microseconds that the sign is
-   busy, and the bytes received while flickerless writing was already on (sign_tally_number reads
-   one).
+   busy, the bytes received while flickerless writing was already on, and the microseconds that the
+   sign is busy at the worst, which is 200 more for each byte counted by the third
+   (sign_tally_number reads one). What a run adds to the fourth is the time to reserve for it.
    Answers 0, and then block and tally are up to date, and the bytes are to be sent; or 1, 2, 3, 4
    or 5, and then neither changed, and the bytes must not be sent. */
 uint32_t sign_run(uint8_t *block, size_t block_len,
@@ -169,7 +170,9 @@ uint32_t sign_underline(const uint8_t *block, size_t block_len, uint32_t code);
 uint32_t sign_lit(const uint8_t *block, size_t block_len, uint32_t code);
 
 /* The numbers of a tally. */
-enum sign_number { SIGN_NUMBER_BYTES = 0, SIGN_NUMBER_BUSY = 1, SIGN_NUMBER_FLICKERLESS = 2 };
+enum sign_number {
+    SIGN_NUMBER_BYTES = 0, SIGN_NUMBER_BUSY = 1, SIGN_NUMBER_FLICKERLESS = 2, SIGN_NUMBER_WORST = 3
+};
 
 static inline uint32_t sign_tally_number(const uint8_t *tally, enum sign_number which) {
     const uint8_t *p = tally + 4 * which;

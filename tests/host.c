@@ -214,7 +214,8 @@ static void refusals(void) {
     after(want, 0);
     memcpy(kept, block, sizeof kept);
     check("run 1", sign_run(block, 511, tally, SIGN_TALLY, want, 1) == SIGN_WRONG_LENGTH
-        && sign_run(block, 512, tally, SIGN_TALLY - 1, want, 1) == SIGN_WRONG_LENGTH);
+        && sign_run(block, 512, tally, SIGN_TALLY - 1, want, 1) == SIGN_WRONG_LENGTH
+        && sign_run(block, 512, tally, 12, want, 1) == SIGN_WRONG_LENGTH);
     check("run 4", run(longest, sizeof longest) == SIGN_TOO_LONG);
     tally[3] = 0xFF;
     check("run 3", run(want, 0) == SIGN_OUT_OF_RANGE);

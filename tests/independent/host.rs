@@ -172,11 +172,12 @@ impl Host {
 const ZERO: [u8; TALLY] = [0; TALLY];
 const LIMIT32: u32 = LIMIT as u32;
 
-fn tally(bytes: u32, busy: u32, flickerless: u32) -> Vec<u8> {
+fn tally(bytes: u32, busy: u32, flickerless: u32, worst: u32) -> Vec<u8> {
     Tally {
         bytes: bytes as u64,
         busy: busy as u64,
         flickerless: flickerless as u64,
+        worst: worst as u64,
     }
     .to_bytes()
     .to_vec()
@@ -296,18 +297,18 @@ fn order_of_refusals(h: &mut Host) {
         if wrong(3) {
             block.push(0);
         }
-        let mut t = tally(7, 7, 7);
+        let mut t = tally(7, 7, 7, 7);
         if wrong(4) {
-            t = tally(LIMIT32, 7, 7); // one byte more would pass the limit
+            t = tally(LIMIT32, 7, 7, 7); // one byte more would pass the limit
         }
         if wrong(5) {
-            t[11] = 0xFF; // above the limit
+            t[15] = 0xFF; // above the limit
         }
         if wrong(6) {
             t.push(0);
         }
         if wrong(7) {
-            t.truncate(11);
+            t.truncate(15);
         }
         h.run(&block, &t, if wrong(8) { &long } else { &[0x41, 0x42] });
     }
@@ -385,7 +386,7 @@ fn any_started(rng: &mut Rng) -> Half {
 fn wrong_lengths(h: &mut Host) {
     let block = rich().to_block();
     for block_len in [0, 1, 2, 3, 256, 510, 511, 512, 513, 514, 1024] {
-        for tally_len in [0, 1, 4, 8, 11, 12, 13, 16, 24] {
+        for tally_len in [0, 1, 4, 8, 12, 15, 16, 17, 20, 32] {
             for bytes_len in [0, 1, 100] {
                 let mut b = block.to_vec();
                 b.resize(block_len, 0);
@@ -415,9 +416,10 @@ fn wrong_lengths(h: &mut Host) {
         for block in [Condition::power_up(0).to_block(), rich().to_block()] {
             let bytes = inputs::mixed(n);
             h.run(&block, &ZERO, &bytes);
-            h.run(&block, &tally(LIMIT32, 0, 0), &bytes);
-            h.run(&block, &tally(0, LIMIT32 - 1, 0), &bytes);
-            h.run(&block, &vec![0x42; n.min(12)], &bytes);
+            h.run(&block, &tally(LIMIT32, 0, 0, 0), &bytes);
+            h.run(&block, &tally(0, LIMIT32 - 1, 0, 0), &bytes);
+            h.run(&block, &tally(0, 0, 0, LIMIT32 - 1), &bytes);
+            h.run(&block, &[0x42; TALLY], &bytes);
         }
     }
     for font in [0, 1, 2, 3, 255, 256, 257, 65_536, 1 << 31, u32::MAX] {
@@ -433,13 +435,17 @@ fn tallies(h: &mut Host) {
     for a in edge {
         for b in edge {
             for c in edge {
-                let block = Condition::power_up(0).to_block();
-                for bytes in [&[][..], &[0x41], &[0x1B, 0x53], &[0x1B, 0x53, 0x41]] {
-                    h.run(&block, &tally(a, b, c), bytes);
+                for d in edge {
+                    let block = Condition::power_up(0).to_block();
+                    for bytes in [&[][..], &[0x41], &[0x1B, 0x53], &[0x1B, 0x53, 0x41]] {
+                        h.run(&block, &tally(a, b, c, d), bytes);
+                    }
                 }
             }
         }
     }
+    // one number alone at, just below or just above its limit after the run
+    let mut alone = [0; 4];
     for _ in 0..4_000 {
         let c = any_condition(&mut h.rng);
         let length = h.rng.below(60);
@@ -447,11 +453,16 @@ fn tallies(h: &mut Host) {
         let (_, sum) = run(&c, &Tally::ZERO, &bytes).expect("an accepted run");
         let base = h.rng.below(1_000) as u32;
         let delta = h.rng.below(3) as u64;
-        let mut t = [base; 3];
-        let which = h.rng.below(3);
-        t[which] = (LIMIT - [sum.bytes, sum.busy, sum.flickerless][which] - 1 + delta) as u32;
-        h.run(&c.to_block(), &tally(t[0], t[1], t[2]), &bytes);
+        let mut t = [base; 4];
+        let which = h.rng.below(4);
+        t[which] = (LIMIT - sum.numbers()[which] - 1 + delta) as u32;
+        let refused_5 = h.runs[5];
+        h.run(&c.to_block(), &tally(t[0], t[1], t[2], t[3]), &bytes);
+        alone[which] += h.runs[5] - refused_5;
     }
+    println!("host: runs refused 5 for bytes, busy, flickerless or worst alone: {:?}", alone);
+    h.report
+        .expect(alone.iter().all(|&n| n > 0), || "no 5 for one of the four alone".to_string());
 }
 
 /// Any condition, any bytes, with now and then something wrong.
@@ -473,16 +484,18 @@ fn random_runs(h: &mut Host, cases: usize) {
             h.rng.below(1_000_000) as u32,
             h.rng.below(1_000_000) as u32,
             h.rng.below(1_000_000) as u32,
+            h.rng.below(1_000_000) as u32,
         );
         if h.rng.once_in(10) {
             let edge = LIMIT32 - h.rng.below(500) as u32;
-            t = tally(edge, LIMIT32 - h.rng.below(2_000) as u32, edge);
+            let busy = LIMIT32 - h.rng.below(2_000) as u32;
+            t = tally(edge, busy, edge, LIMIT32 - h.rng.below(9_000) as u32);
         }
         if h.rng.once_in(8) {
             damage(&mut block, &mut h.rng);
         }
         if h.rng.once_in(40) {
-            t = h.rng.bytes(12);
+            t = h.rng.bytes(TALLY);
         }
         odd_length(&mut t, 30, 0, &mut h.rng);
         odd_length(&mut block, 1_100, 0, &mut h.rng);
@@ -656,7 +669,7 @@ fn threads(h: &mut Host) {
 
 /// Lengths of four gigabytes and some: not cut to 32 bits.
 fn giant_lengths(h: &mut Host) {
-    for some in [12, 40, 43, 44, 103, 104, 511, 512] {
+    for some in [16, 40, 43, 44, 103, 104, 511, 512] {
         if !sign::with_giant(some, |giant| giant_length(h, giant)) {
             return;
         }

@@ -1,6 +1,6 @@
-//! The 20x2 display module, written from its papers alone (document 01, the scope, request W1 of document
-//! 02, and source 000, the module's specification) and not from the product's code. The product is
-//! compared with it.
+//! The 20x2 display module, written from its papers alone (document 01, the scope, requests W1 and W2 of
+//! document 02, and source 000, the module's specification) and not from the product's code. The product
+//! is compared with it.
 //!
 //! In this order: the condition; what a byte does, with its busy time; the run and its tally; what a
 //! cell shows; the block; the planner of one font; the planner of two fonts, by search; two searches that
@@ -10,7 +10,7 @@
 pub const CELLS: usize = 40;
 pub const USERS: usize = 16;
 pub const BLOCK: usize = 512;
-pub const TALLY: usize = 12;
+pub const TALLY: usize = 16;
 pub const LONGEST_RUN: usize = 32_768;
 pub const LIMIT: u64 = 4_000_000_000;
 pub const PLAN_ROOM: usize = 44;
@@ -45,6 +45,13 @@ pub struct User {
 }
 
 const NO_USER: User = User { code: 0, dots: [0; 5] };
+
+/// How long the module is busy with a byte, in microseconds: at the quickest and at the worst.
+#[derive(Clone, Copy, Debug, PartialEq, Eq)]
+pub struct Busy {
+    pub quick: u64,
+    pub worst: u64,
+}
 
 #[derive(Clone, Debug, PartialEq, Eq)]
 pub struct Condition {
@@ -121,8 +128,20 @@ impl Condition {
 
     // ------------------------------------------------------------------------------ what a byte does
 
-    /// Takes one byte and answers how long the module is busy with it, in microseconds.
-    pub fn take(&mut self, b: u8) -> u64 {
+    /// Takes one byte and answers how long the module is busy with it: up to 200 longer where flickerless
+    /// was already on.
+    #[inline]
+    pub fn take(&mut self, b: u8) -> Busy {
+        let longer = if self.flickerless { 200 } else { 0 };
+        let quick = self.carry_out(b);
+        Busy {
+            quick,
+            worst: quick + longer,
+        }
+    }
+
+    /// What the byte does, and its quick figure.
+    fn carry_out(&mut self, b: u8) -> u64 {
         if self.half != Half::Nothing {
             return self.parameter(b);
         }
@@ -352,6 +371,7 @@ pub struct Tally {
     pub bytes: u64,
     pub busy: u64,
     pub flickerless: u64,
+    pub worst: u64,
 }
 
 impl Tally {
@@ -359,16 +379,30 @@ impl Tally {
         bytes: 0,
         busy: 0,
         flickerless: 0,
+        worst: 0,
     };
 
     fn above_limit(&self) -> bool {
-        self.bytes > LIMIT || self.busy > LIMIT || self.flickerless > LIMIT
+        self.numbers().iter().any(|&n| n > LIMIT)
     }
 
-    /// As a host keeps it: three numbers of four bytes, low byte first.
+    /// In the order in which a host keeps them and `show` prints them.
+    pub fn numbers(&self) -> [u64; 4] {
+        [self.bytes, self.busy, self.flickerless, self.worst]
+    }
+
+    /// One byte that the module takes, from a condition in which flickerless was on or off.
+    pub fn count(&mut self, flickerless: bool, busy: Busy) {
+        self.bytes += 1;
+        self.busy += busy.quick;
+        self.flickerless += flickerless as u64;
+        self.worst += busy.worst;
+    }
+
+    /// As a host keeps it: four numbers of four bytes, low byte first.
     pub fn to_bytes(&self) -> [u8; TALLY] {
         let mut out = [0; TALLY];
-        for (i, n) in [self.bytes, self.busy, self.flickerless].iter().enumerate() {
+        for (i, n) in self.numbers().iter().enumerate() {
             out[i * 4..i * 4 + 4].copy_from_slice(&(*n as u32).to_le_bytes());
         }
         out
@@ -380,6 +414,7 @@ impl Tally {
             bytes: at(0),
             busy: at(4),
             flickerless: at(8),
+            worst: at(12),
         }
     }
 }
@@ -395,11 +430,7 @@ pub fn run(from: &Condition, tally: &Tally, bytes: &[u8]) -> Result<(Condition, 
     let mut c = from.clone();
     let mut t = *tally;
     for &b in bytes {
-        t.bytes += 1;
-        if c.flickerless {
-            t.flickerless += 1;
-        }
-        t.busy += c.take(b);
+        t.count(c.flickerless, c.take(b));
     }
     if t.above_limit() {
         return Err(5);
@@ -1162,7 +1193,7 @@ pub fn show(input: &[u8]) -> String {
                 hex.join(" ")
             };
             format!(
-                "{}\n{}\ncursor {} mode {} font {}\nbytes {} busy {} flickerless {}\n",
+                "{}\n{}\ncursor {} mode {} font {}\nbytes {} busy {} flickerless {} worst {}\n",
                 line(&c.codes[..20]),
                 line(&c.codes[20..]),
                 c.cursor,
@@ -1170,7 +1201,8 @@ pub fn show(input: &[u8]) -> String {
                 c.font,
                 t.bytes,
                 t.busy,
-                t.flickerless
+                t.flickerless,
+                t.worst
             )
         }
     }

@@ -1,5 +1,5 @@
 //! The independent program alone: the fourteen cases of the bench sheet, the sample, and the rules of
-//! document 01 and of request W1 that it can be held to by itself. It uses nothing of the product.
+//! document 01 and of requests W1 and W2 that it can be held to by itself. It uses nothing of the product.
 
 mod inputs;
 mod module;
@@ -101,7 +101,7 @@ fn sample(r: &mut Report) {
     let expected = "41 20 20 20 20 20 20 20 20 20 20 20 20 20 20 20 20 20 20 20\n\
                     20 42 20 20 20 20 20 20 20 20 20 20 20 20 20 20 20 20 20 20\n\
                     cursor 0 mode 1 font 0\n\
-                    bytes 4 busy 26 flickerless 0\n";
+                    bytes 4 busy 26 flickerless 0 worst 26\n";
     r.cases += 1;
     r.expect(show(&[0x41, 0x0A, 0x42, 0x0C]) == expected, || "the sample".to_string());
     r.cases += 1;
@@ -110,24 +110,25 @@ fn sample(r: &mut Report) {
     });
 }
 
-/// Short strings worked out by hand from the papers: bytes, cursor, busy, flickerless, cells not blank.
+/// Short strings worked out by hand from the papers: bytes, cursor, busy, flickerless, worst, cells not blank.
 fn worked_examples(r: &mut Report) {
-    type Example<'a> = (&'a [u8], usize, u64, u64, &'a [(usize, u8)]);
-    let examples: [Example; 22] = [
+    type Example<'a> = (&'a [u8], usize, u64, u64, u64, &'a [(usize, u8)]);
+    let examples: [Example; 25] = [
         // an unknown byte after ESC is dropped, 1Bh too
-        (&[0x1B, 0x1B, 0x49], 1, 19, 0, &[(0, 0x49)]),
-        (&[0x1B, 0x41, 0x42], 1, 19, 0, &[(0, 0x42)]),
+        (&[0x1B, 0x1B, 0x49], 1, 19, 0, 19, &[(0, 0x49)]),
+        (&[0x1B, 0x41, 0x42], 1, 19, 0, 19, &[(0, 0x42)]),
         // a parameter is a parameter, though its code is a user character
-        (&[0x1B, 0x43, 0x48, 1, 2, 3, 4, 5, 0x1B, 0x48, 0x05], 5, 69, 0, &[]),
-        (&[0x1B, 0x43, 0x41, 0x0C, 0x0E, 0x1B, 0x49, 0xFF], 0, 55, 0, &[]),
+        (&[0x1B, 0x43, 0x48, 1, 2, 3, 4, 5, 0x1B, 0x48, 0x05], 5, 69, 0, 69, &[]),
+        (&[0x1B, 0x43, 0x41, 0x0C, 0x0E, 0x1B, 0x49, 0xFF], 0, 55, 0, 55, &[]),
         // mode 3: what ends scroll-on and what leaves it
-        (&[0x13, 0x1B, 0x48, 0x13, 0x41, 0x0E, 0x42], 19, 99, 0, &[(19, 0x42)]),
-        (&[0x13, 0x1B, 0x48, 0x13, 0x41, 0x13, 0x42], 19, 40, 0, &[(19, 0x42)]),
+        (&[0x13, 0x1B, 0x48, 0x13, 0x41, 0x0E, 0x42], 19, 99, 0, 99, &[(19, 0x42)]),
+        (&[0x13, 0x1B, 0x48, 0x13, 0x41, 0x13, 0x42], 19, 40, 0, 40, &[(19, 0x42)]),
         (
             &[0x13, 0x1B, 0x48, 0x13, 0x41, 0x09, 0x42],
             19,
             53,
             0,
+            53,
             &[(18, 0x41), (19, 0x42)],
         ),
         (
@@ -135,6 +136,7 @@ fn worked_examples(r: &mut Report) {
             19,
             61,
             0,
+            61,
             &[(18, 0x41), (19, 0x42)],
         ),
         (
@@ -142,45 +144,53 @@ fn worked_examples(r: &mut Report) {
             19,
             48,
             0,
+            48,
             &[(19, 0x42)],
         ),
-        (&[0x13, 0x1B, 0x48, 0x27, 0x41, 0x0A, 0x42], 39, 40, 0, &[(39, 0x42)]),
+        (&[0x13, 0x1B, 0x48, 0x27, 0x41, 0x0A, 0x42], 39, 40, 0, 40, &[(39, 0x42)]),
         (
             &[0x13, 0x1B, 0x48, 0x13, 0x41, 0x0A, 0x42],
             39,
             40,
             0,
+            40,
             &[(19, 0x41), (39, 0x42)],
         ),
         // mode 2: 0Ah and 09h scroll
-        (&[0x1B, 0x48, 0x14, 0x41, 0x12, 0x0A], 21, 47, 0, &[(0, 0x41)]),
+        (&[0x1B, 0x48, 0x14, 0x41, 0x12, 0x0A], 21, 47, 0, 47, &[(0, 0x41)]),
         (
             &[0x1B, 0x48, 0x27, 0x41, 0x12, 0x1B, 0x48, 0x27, 0x09],
             20,
             61,
             0,
+            61,
             &[(19, 0x41)],
         ),
         // mode 1: both ends
-        (&[0x1B, 0x48, 0x27, 0x09], 0, 20, 0, &[]),
-        (&[0x1B, 0x48, 0x13, 0x09], 20, 20, 0, &[]),
-        (&[0x1B, 0x48, 0x19, 0x0A], 5, 20, 0, &[]),
-        (&[0x1B, 0x48, 0x19, 0x0D], 20, 20, 0, &[]),
+        (&[0x1B, 0x48, 0x27, 0x09], 0, 20, 0, 20, &[]),
+        (&[0x1B, 0x48, 0x13, 0x09], 20, 20, 0, 20, &[]),
+        (&[0x1B, 0x48, 0x19, 0x0A], 5, 20, 0, 20, &[]),
+        (&[0x1B, 0x48, 0x19, 0x0D], 20, 20, 0, 20, &[]),
         // a clear keeps the cursor, 0Ch keeps the cells
-        (&[0x41, 0x42, 0x0E], 2, 79, 0, &[]),
-        (&[0x41, 0x42, 0x0C], 0, 20, 0, &[(0, 0x41), (1, 0x42)]),
+        (&[0x41, 0x42, 0x0E], 2, 79, 0, 79, &[]),
+        (&[0x41, 0x42, 0x0C], 0, 20, 0, 20, &[(0, 0x41), (1, 0x42)]),
         // flickerless: the 53h that turns it on is not counted, the 49h that turns it off is
-        (&[0x1B, 0x53, 0x41, 0x1B, 0x53], 1, 31, 3, &[(0, 0x41)]),
-        (&[0x1B, 0x53, 0x1B, 0x49, 0x41], 1, 65, 2, &[(0, 0x41)]),
-        (&[0x00, 0x07, 0x0B, 0x10, 0x1C, 0x1F], 0, 36, 0, &[]),
+        (&[0x1B, 0x53, 0x41, 0x1B, 0x53], 1, 31, 3, 631, &[(0, 0x41)]),
+        (&[0x1B, 0x53, 0x1B, 0x49, 0x41], 1, 65, 2, 465, &[(0, 0x41)]),
+        // and at the worst each byte counted so takes 200 longer: ignored ones, parameters, a second 53h too
+        (&[0x1B, 0x53, 0x41, 0x0B, 0x1B, 0x49], 0, 71, 4, 871, &[]),
+        (&[0x1B, 0x53, 0x1B, 0x53, 0x1B, 0x54, 0x07], 0, 40, 5, 1040, &[]),
+        (&[0x1B, 0x53, 0x1B, 0x43, 0x21, 1, 2, 3, 4, 5], 0, 67, 8, 1667, &[]),
+        (&[0x00, 0x07, 0x0B, 0x10, 0x1C, 0x1F], 0, 36, 0, 36, &[]),
     ];
-    for (bytes, cursor, busy, flickerless, cells) in examples {
+    for (bytes, cursor, busy, flickerless, worst, cells) in examples {
         let (c, t) = after(bytes);
         r.cases += 1;
         let tally = Tally {
             bytes: bytes.len() as u64,
             busy,
             flickerless,
+            worst,
         };
         r.expect(c.cursor == cursor && t == tally && c.codes == picture(cells), || {
             format!("example {}", hex(bytes))
@@ -452,8 +462,11 @@ fn conditions(r: &mut Report) {
             let busy = next.take(b);
             r.cases += 1;
             r.expect(next.well_formed(), || format!("{:02X} breaks {:?}", b, c));
-            r.expect([4, 6, 7, 15, 20, 40, 65].contains(&busy), || {
-                format!("busy {} after {:02X}", busy, b)
+            r.expect([4, 6, 7, 15, 20, 40, 65].contains(&busy.quick), || {
+                format!("busy {} after {:02X}", busy.quick, b)
+            });
+            r.expect(busy.worst == busy.quick + 200 * c.flickerless as u64, || {
+                format!("busy {} at the worst after {:02X}", busy.worst, b)
             });
         }
         let length = rng.below(60);

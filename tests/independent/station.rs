@@ -285,7 +285,7 @@ impl Bench {
     /// The state does not fit, and the module is in any condition. (Damage to the tally alone is left
     /// out: the block is right then, and it is taken.)
     fn states(&mut self) {
-        let faults = "missing, empty, short, long, marked, damaged, random, of other settings, of another J6, \
+        let faults = "missing, empty, short, long, with a tally of 12 bytes, marked, damaged, random, of other settings, of another J6, \
                       of another TTY, of a TTY with a longer path, of another boot, of no boot";
         for fault in std::iter::repeat(faults).take(4).flat_map(|f| f.split(", ")) {
             let mut state = self.saved();
@@ -294,6 +294,7 @@ impl Bench {
                 "empty" => state.clear(),
                 "short" => state.truncate(1 + self.rng.below(STATE_SIZE - 1)),
                 "long" => state.push(0),
+                "with a tally of 12 bytes" => drop(state.drain(TTY_AT - 4..TTY_AT)),
                 "marked" => state[0] = b'D',
                 "damaged" => {
                     let any = self.rng.below(STATE_SIZE - TALLY);

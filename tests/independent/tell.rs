@@ -36,7 +36,10 @@ fn told(input: &[u8]) -> String {
     };
     let mut lines: Vec<String> = (0..CELLS).map(|p| format!("cell {} {}", p, shown(&c, p))).collect();
     lines.extend(c.users[..c.count].iter().map(|u| drawn(&c, u.code)));
-    lines.push(format!("bytes {} busy {} flickerless {}", t.bytes, t.busy, t.flickerless));
+    lines.push(format!(
+        "bytes {} busy {} flickerless {} worst {}",
+        t.bytes, t.busy, t.flickerless, t.worst
+    ));
     lines.join("\n") + "\n"
 }
 

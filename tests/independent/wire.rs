@@ -50,8 +50,7 @@ impl Line {
         if self.held.ends_with(&self.end) {
             let own = self.held.len() - self.end.len();
             for &b in &self.held[..own] {
-                self.received.bytes += 1;
-                self.received.busy += self.module.take(b);
+                self.received.count(self.module.flickerless, self.module.take(b));
             }
             self.held.clear();
             self.end.clear();

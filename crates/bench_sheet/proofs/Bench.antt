@@ -9,7 +9,8 @@ use Rattle.condition.specs.Condition.{allUpTo, absent, usersGood, pendingGood, 
 use Rattle.condition.specs.Condition.{powerUp}
 use Rattle.condition.specs.Bytes.{scrollOf, leftOf, rightOf, downOf, returnOf, clearOf, pushOf, writeOf, isChar, controlOf}
 use Rattle.condition.specs.Bytes.{escapeOf, positionOf, dataOf, stepAt, runOf}
-use Rattle.condition.specs.Busy.{rightScrolls, downScrolls, lineShifts, writeBusy, controlBusy, escapeBusy, figureAt, busyOf}
+use Rattle.condition.specs.Busy.{rightScrolls, downScrolls, lineShifts, writeBusy, controlBusy, escapeBusy, quickAt, totalOf}
+use Rattle.interpreter.specs.Run.{withinLimit, tallied, runRefusal, runAnswer}
 use Rattle.glass.specs.Shows.{showsCode, showsOf}
 use Rattle.glass.specs.Answers.{lookupOf, dotAnswer, litAnswer}
 use Rattle.condition.specs.Steps.{wrong}
@@ -20,10 +21,11 @@ use Rattle.planner.specs.Fonts.{wrongFor, switch, fontsPlanOf, fontsPlan}
 use Rattle.planner.specs.Answer.{onMove, onSwitch, lacks, someLacks, refusalBy, planRefusal, fontsRefusal}
 use Rattle.bench_sheet.specs.Sheet.{AllHold, dotsUpTo, sheet}
 use Rattle.bench_sheet.specs.FontsSheet.{fontsSheet}
+use Rattle.bench_sheet.specs.TallySheet.{AllCount, tallySheet}
 
 pub bench : AllHold sheet
 unfolding powerUp runOf stepAt isChar isUser foundIn limitOf writeOf pushOf rightOf scrollOf scrolled shifted lineStart
-    controlOf leftOf downOf returnOf clearOf escapeOf positionOf dataOf defineOf definedAt putOf busyOf figureAt writeBusy
+    controlOf leftOf downOf returnOf clearOf escapeOf positionOf dataOf defineOf definedAt putOf totalOf quickAt writeBusy
     controlBusy escapeBusy rightScrolls downScrolls lineShifts showsOf showsCode dotsUpTo dotAnswer litAnswer lookupOf
     wellFormed numbersGood scrollGood allUpTo usersGood absent pendingGood escapeGood characterAt dotOf litOf litUpTo wrong left
     next down move near1 near2 dist leaves firstByte pathOf path flagged planOf plan onMove lacks someLacks refusalBy
@@ -66,3 +68,10 @@ unfolding powerUp runOf stepAt isChar isUser foundIn limitOf controlOf escapeOf 
     allUpTo usersGood absent pendingGood escapeGood left next down move near1 near2 dist lineStart leaves firstByte pathOf path
     flagged wrongFor switch fontsPlanOf fontsPlan onMove onSwitch lacks someLacks refusalBy fontsRefusal
 fonts-bench = ((refl, refl), ((refl, refl), ((refl, refl), tt)))
+
+-- and the cases for the tally
+pub tally-bench : AllCount tallySheet
+unfolding powerUp stepAt isChar isUser foundIn limitOf writeOf rightOf controlOf downOf escapeOf totalOf quickAt writeBusy controlBusy
+    escapeBusy rightScrolls downScrolls lineShifts wellFormed numbersGood scrollGood allUpTo usersGood pendingGood escapeGood absent
+    withinLimit tallied runRefusal runAnswer
+tally-bench = ((refl, refl), ((refl, refl), ((refl, refl), tt)))

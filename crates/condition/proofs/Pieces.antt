@@ -1,6 +1,6 @@
 -- A run in pieces and byte by byte, and how much a run can add to the tally.
 use mathlib.Core.Path.{_≡_, refl, sym}
-use mathlib.Core.Bool.{_||_}
+use mathlib.Core.Bool.{Bool, true, false, cond, _||_}
 use mathlib.Core.List.{List, [], _∷_, _++_}
 use Prim.Native.Nat.{ℕ, _<_, _≤_, _+_, _*_}
 use native.Mathlib.Omega.{arith}
@@ -15,8 +15,8 @@ use Rattle.condition.specs.declared.Pending.{Pending}
 use Rattle.condition.specs.declared.Pending.the-variants.{Nothing, Escape, Position, Luminance, Speed, UserCode, UserData}
 use Rattle.condition.specs.Condition.{flag}
 use Rattle.condition.specs.Bytes.{isChar, stepOf, runOf}
-use Rattle.condition.specs.Busy.{rightScrolls, downScrolls, lineShifts, writeBusy, controlBusy, escapeBusy, figureAt}
-use Rattle.condition.specs.Busy.{figureOf, busyOf, flickerlessOf}
+use Rattle.condition.specs.Busy.{rightScrolls, downScrolls, lineShifts, writeBusy, controlBusy, escapeBusy, quickAt}
+use Rattle.condition.specs.Busy.{totalOf, quickFigure, worstFigure, whileOn, busyOf, worstOf, flickerlessOf}
 use Rattle.condition.proofs.Flags.{flag-most}
 
 -- One run or several with the same bytes in turn end alike ----------------------------------------------------------------
@@ -26,16 +26,12 @@ unfolding runOf
 run-append c [] ys = refl
 run-append c (x ∷ xs) ys = run-append (stepOf c x) xs ys
 
-pub busy-append : (c : Condition) (xs ys : List ℕ) → busyOf c (xs ++ ys) ≡ busyOf c xs + busyOf (runOf c xs) ys
-unfolding runOf busyOf
-busy-append c [] ys = sym (zero-add (busyOf c ys))
-busy-append c (x ∷ xs) ys = rw (busy-append (stepOf c x) xs ys, add-assoc)
-
-pub flickerless-append : (c : Condition) (xs ys : List ℕ)
-    → flickerlessOf c (xs ++ ys) ≡ flickerlessOf c xs + flickerlessOf (runOf c xs) ys
-unfolding runOf flickerlessOf
-flickerless-append c [] ys = sym (zero-add (flickerlessOf c ys))
-flickerless-append c (x ∷ xs) ys = rw (flickerless-append (stepOf c x) xs ys, add-assoc)
+-- and what their bytes come to adds up, whatever is counted
+pub total-append : (f : Condition → ℕ → ℕ) (c : Condition) (xs ys : List ℕ)
+    → totalOf f c (xs ++ ys) ≡ totalOf f c xs + totalOf f (runOf c xs) ys
+unfolding runOf totalOf
+total-append f c [] ys = sym (zero-add (totalOf f c ys))
+total-append f c (x ∷ xs) ys = rw (total-append f (stepOf c x) xs ys, add-assoc)
 
 -- Byte by byte, over what is left of the bytes ----------------------------------------------------------------------------
 
@@ -44,38 +40,30 @@ module _ (c : Condition) (bs : List ℕ) (i : ℕ) (h : i < length bs) where
   unfolding runOf
   run-turn = rw (add-one, drop-cons bs i 0 h)
 
-  pub busy-turn : figureOf c (getD bs i 0) + busyOf (stepOf c (getD bs i 0)) (drop (i + 1) bs) ≡ busyOf c (drop i bs)
-  unfolding busyOf
-  busy-turn = rw (add-one, drop-cons bs i 0 h)
-
-  pub flickerless-turn : flag (c .flickerless) + flickerlessOf (stepOf c (getD bs i 0)) (drop (i + 1) bs)
-      ≡ flickerlessOf c (drop i bs)
-  unfolding flickerlessOf
-  flickerless-turn = rw (add-one, drop-cons bs i 0 h)
+  pub total-turn : (f : Condition → ℕ → ℕ)
+      → f c (getD bs i 0) + totalOf f (stepOf c (getD bs i 0)) (drop (i + 1) bs) ≡ totalOf f c (drop i bs)
+  unfolding totalOf
+  total-turn f = rw (add-one, drop-cons bs i 0 h)
 
 module _ (c : Condition) (bs : List ℕ) (i : ℕ) (h : length bs ≤ i) where
   pub run-ended : runOf c (drop i bs) ≡ c
   unfolding runOf
   run-ended = rw (drop-of-length-le bs h)
 
-  pub busy-ended : busyOf c (drop i bs) ≡ 0
-  unfolding busyOf
-  busy-ended = rw (drop-of-length-le bs h)
-
-  pub flickerless-ended : flickerlessOf c (drop i bs) ≡ 0
-  unfolding flickerlessOf
-  flickerless-ended = rw (drop-of-length-le bs h)
+  pub total-ended : (f : Condition → ℕ → ℕ) → totalOf f c (drop i bs) ≡ 0
+  unfolding totalOf
+  total-ended f = rw (drop-of-length-le bs h)
 
 -- The most that a byte and a run add ---------------------------------------------------------------------------------------
 
 abbrev Most : ℕ → Type 0
 Most n = n ≤ 65
 
-pub figure-most : (c : Condition) (b : ℕ) → figureOf c b ≤ 65
-unfolding figureAt writeBusy controlBusy escapeBusy
-figure-most c b = go (c .pending)
+quick-most : (c : Condition) (b : ℕ) → quickFigure c b ≤ 65
+unfolding quickAt writeBusy controlBusy escapeBusy
+quick-most c b = go (c .pending)
   where
-    go : (p : Pending) → figureAt p c b ≤ 65
+    go : (p : Pending) → quickAt p c b ≤ 65
     go Nothing =
         by-test Most (isChar c b)
         (λ _. by-test Most (rightScrolls c || lineShifts c) (λ _. omega arith) (λ _. omega arith))
@@ -95,12 +83,32 @@ figure-most c b = go (c .pending)
     go UserCode = omega arith
     go (UserData code n) = by-test Most (ltb n 4) (λ _. omega arith) (λ _. omega arith)
 
-pub busy-most : (c : Condition) (bs : List ℕ) → busyOf c bs ≤ 65 * length bs
-unfolding busyOf
-busy-most c [] = omega arith
-busy-most c (b ∷ bs) = omega (arith, figure-most c b, busy-most (stepOf c b) bs)
+worst-most : (c : Condition) (b : ℕ) → worstFigure c b ≤ 265
+worst-most c b =
+    let q = quick-most c b in
+    by-test (λ (n : ℕ). n ≤ 265) (c .flickerless) (λ _. omega (arith, q)) (λ _. omega (arith, q))
 
-pub flickerless-most : (c : Condition) (bs : List ℕ) → flickerlessOf c bs ≤ length bs
-unfolding flickerlessOf
-flickerless-most c [] = omega arith
-flickerless-most c (b ∷ bs) = omega (arith, flag-most (c .flickerless), flickerless-most (stepOf c b) bs)
+total-most : (f : Condition → ℕ → ℕ) (m : ℕ) → ((c : Condition) (b : ℕ) → f c b ≤ m)
+    → (c : Condition) (bs : List ℕ) → totalOf f c bs ≤ m * length bs
+unfolding totalOf
+total-most f m h c [] = omega arith
+total-most f m h c (b ∷ bs) = omega (arith, h c b, total-most f m h (stepOf c b) bs)
+
+pub run-most : (c : Condition) (bs : List ℕ)
+    → (busyOf c bs ≤ 65 * length bs) × (flickerlessOf c bs ≤ 1 * length bs) × (worstOf c bs ≤ 265 * length bs)
+run-most c bs = (
+  total-most quickFigure 65 quick-most c bs,
+  total-most whileOn 1 (λ c _. flag-most (c .flickerless)) c bs,
+  total-most worstFigure 265 worst-most c bs,
+)
+
+-- The worst busy time is the quick one, and 200 more for each byte that came while flickerless was on
+
+slower : (q : ℕ) (on : Bool) → cond on (q + 200) q ≡ q + 200 * flag on
+slower q true = refl
+slower q false = omega arith
+
+pub worst-law : (c : Condition) (bs : List ℕ) → worstOf c bs ≡ busyOf c bs + 200 * flickerlessOf c bs
+unfolding totalOf
+worst-law c [] = refl
+worst-law c (b ∷ bs) = omega (arith, slower (quickFigure c b) (c .flickerless), worst-law (stepOf c b) bs)

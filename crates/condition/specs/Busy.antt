@@ -1,9 +1,11 @@
--- Busy time, in microseconds (document 01, Busy time and the tally; source 000, section 6.1).
+-- Busy time, in microseconds (document 01, Busy time and the tally; document 02, W2; source 000, section 6.1). A byte has two
+-- figures, the quick one and the worst one.
 use Prim.Native.Nat.{ℕ, _+_}
 use mathlib.Core.List.{List, [], _∷_}
 use mathlib.Core.Bool.{Bool, cond, _&&_, _||_}
 use lib.Dec.{eqb, ltb, leb}
 use Rattle.condition.specs.declared.Condition.{Condition}
+use Rattle.condition.specs.declared.Figures.{Figures}
 use Rattle.condition.specs.declared.Pending.{Pending}
 use Rattle.condition.specs.declared.Pending.the-variants.{Nothing, Escape, Position, Luminance, Speed, UserCode, UserData}
 use Rattle.condition.specs.Condition.{column, flag}
@@ -43,25 +45,46 @@ escapeBusy b =
     (cond (eqb b 0x54) 4 6))))
 
 -- position and luminance 4; speed 6; user code 6, d1-d4 6, d5 15
-unfoldable pub figureAt : Pending → Condition → ℕ → ℕ
-figureAt Nothing c b = cond (isChar c b) (writeBusy c) (controlBusy c b)
-figureAt Escape c b = escapeBusy b
-figureAt Position c b = 4
-figureAt Luminance c b = 4
-figureAt Speed c b = 6
-figureAt UserCode c b = 6
-figureAt (UserData code n) c b = cond (ltb n 4) 6 15
+unfoldable pub quickAt : Pending → Condition → ℕ → ℕ
+quickAt Nothing c b = cond (isChar c b) (writeBusy c) (controlBusy c b)
+quickAt Escape c b = escapeBusy b
+quickAt Position c b = 4
+quickAt Luminance c b = 4
+quickAt Speed c b = 6
+quickAt UserCode c b = 6
+quickAt (UserData code n) c b = cond (ltb n 4) 6 15
 
--- a byte's busy figure
-abbrev pub figureOf : Condition → ℕ → ℕ
-figureOf c b = figureAt (c .pending) c b
+-- up to 200 more for each byte in flickerless mode: the worst figure is 200 higher when flickerless was already on
+abbrev pub figuresBy : ℕ → Bool → Figures
+figuresBy quick on = record { quick = quick; worst = cond on (quick + 200) quick }
 
--- the busy time of a run: the sum of each byte's figure
-unfoldable pub busyOf : Condition → List ℕ → ℕ
-busyOf c [] = 0
-busyOf c (b ∷ bs) = figureOf c b + busyOf (stepOf c b) bs
+-- a byte's busy figures
+abbrev pub figuresOf : Condition → ℕ → Figures
+figuresOf c b = figuresBy (quickAt (c .pending) c b) (c .flickerless)
+
+-- what a run's bytes come to, where each is counted in the condition that it meets
+unfoldable pub totalOf : (Condition → ℕ → ℕ) → Condition → List ℕ → ℕ
+totalOf count c [] = 0
+totalOf count c (b ∷ bs) = count c b + totalOf count (stepOf c b) bs
+
+abbrev pub quickFigure : Condition → ℕ → ℕ
+quickFigure c b = figuresOf c b .quick
+
+abbrev pub worstFigure : Condition → ℕ → ℕ
+worstFigure c b = figuresOf c b .worst
+
+-- 1 for a byte that is received while flickerless is already on
+abbrev pub whileOn : Condition → ℕ → ℕ
+whileOn c b = flag (c .flickerless)
+
+-- the busy time of a run: the sum of each byte's quick figure
+abbrev pub busyOf : Condition → List ℕ → ℕ
+busyOf c bs = totalOf quickFigure c bs
+
+-- its worst busy time: the sum of each byte's worst figure
+abbrev pub worstOf : Condition → List ℕ → ℕ
+worstOf c bs = totalOf worstFigure c bs
 
 -- bytes received while flickerless was already on
-unfoldable pub flickerlessOf : Condition → List ℕ → ℕ
-flickerlessOf c [] = 0
-flickerlessOf c (b ∷ bs) = flag (c .flickerless) + flickerlessOf (stepOf c b) bs
+abbrev pub flickerlessOf : Condition → List ℕ → ℕ
+flickerlessOf c bs = totalOf whileOn c bs

@@ -47,6 +47,12 @@ pub struct Outcome {
     pub condition: Condition,
 }
 
+// A byte's busy time, in microseconds: the quick figure, and the worst one, which flickerless mode may reach.
+pub struct Figures {
+    pub quick: u8,
+    pub worst: u16,
+}
+
 // Every byte of s is at most n. All are looked at: a loop that does not leave early is compiled to take many at a time.
 pub fn up_to(n: u8, s: &[u8]) -> bool
     ensures { λ r. ⌜ r ≡ allUpTo n (now (s .entry)) ⌝ }

@@ -4,7 +4,7 @@ use mathlib.Core.Path.{_≡_, sym, _∙_}
 use mathlib.Core.List.{List}
 use mathlib.Core.Bool.{Bool, true, false}
 use native.Mathlib.Omega.{arith}
-use lib.Dec.{ltb}
+use lib.Dec.{eqb, ltb}
 use lib.ListN.{getD}
 use borrow.Author.Tests.{eq-eqb, ne-eqb}
 use Rattle.condition.specs.declared.Condition.{Condition}
@@ -12,12 +12,13 @@ use Rattle.condition.specs.declared.Pending.{Pending}
 use Rattle.condition.specs.declared.Pending.the-variants.{Nothing, UserData}
 use Rattle.condition.specs.Set.{withCursor, withCell}
 use Rattle.condition.specs.Bytes.{scrollOf, rightOf, pushOf, writeOf, isChar, controlOf, dataOf, stepAt, stepOf}
-use Rattle.condition.specs.Busy.{writeBusy, controlBusy, figureAt}
+use Rattle.condition.specs.declared.Figures.{Figures}
+use Rattle.condition.specs.Busy.{writeBusy, controlBusy, quickAt, quickFigure, figuresBy}
 use Rattle.layout.specs.Layout.{conditionIn, pendingOf}
 use Rattle.layout.proofs.PackedBack.{kind-above-5}
 use Rattle.inplace.specs.InPlace.{Stepped}
 use Rattle.inplace.proofs.Columns.{inner-column, edge-column}
-use Rattle.inplace.proofs.InPlace.{cursor-at, mode-at, pending-at}
+use Rattle.inplace.proofs.InPlace.{cursor-at, mode-at, flickerless-at, pending-at}
 
 -- 09h, with the column's test r
 module _ (s : List ℕ) (r : Bool) (at : r ≡ ltb (getD s 3 0 % 20) 19) where
@@ -77,17 +78,22 @@ pub data-step : (s : List ℕ) (b : ℕ) → pendingOf (getD s 13 0) (getD s 14 
 unfolding stepAt
 data-step s b e = half-step s b _ e
 
--- A byte where nothing is half received
-module _ (s : List ℕ) (b : ℕ) (z : getD s 13 0 ≡ 0) (k : Condition) (r : ℕ) where
-  nothing : conditionIn s .pending ≡ Nothing
-  nothing = pending-at s ∙ rw z
+-- A byte carried out, by its quick figure q and the flag x that stood there before it
+module _ (s : List ℕ) (b : ℕ) (k : Condition) (q : ℕ) (r : Figures) (e : r ≡ figuresBy q (eqb (getD s 12 0) 1)) where
+  pub quick-step : k ≡ stepOf (conditionIn s) b → q ≡ quickFigure (conditionIn s) b → Stepped (conditionIn s) b k r
+  quick-step p t = record { leaves = p; takes = e ∙ rw (t, flickerless-at s) }
 
-  pub char-step : isChar (conditionIn s) b ≡ true → k ≡ writeOf (conditionIn s) b → r ≡ writeBusy (conditionIn s)
-      → Stepped (conditionIn s) b k r
-  unfolding stepAt figureAt isChar
-  char-step i p q = record { leaves = p ∙ rw (nothing, i); takes = q ∙ rw (nothing, i) }
+  -- where nothing is half received
+  module _ (z : getD s 13 0 ≡ 0) where
+    nothing : conditionIn s .pending ≡ Nothing
+    nothing = pending-at s ∙ rw z
 
-  pub control-step : isChar (conditionIn s) b ≡ false → k ≡ controlOf (conditionIn s) b → r ≡ controlBusy (conditionIn s) b
-      → Stepped (conditionIn s) b k r
-  unfolding stepAt figureAt isChar
-  control-step i p q = record { leaves = p ∙ rw (nothing, i); takes = q ∙ rw (nothing, i) }
+    pub char-step : isChar (conditionIn s) b ≡ true → k ≡ writeOf (conditionIn s) b → q ≡ writeBusy (conditionIn s)
+        → Stepped (conditionIn s) b k r
+    unfolding stepAt quickAt isChar
+    char-step i p t = quick-step (p ∙ rw (nothing, i)) (t ∙ rw (nothing, i))
+
+    pub control-step : isChar (conditionIn s) b ≡ false → k ≡ controlOf (conditionIn s) b → q ≡ controlBusy (conditionIn s) b
+        → Stepped (conditionIn s) b k r
+    unfolding stepAt quickAt isChar
+    control-step i p t = quick-step (p ∙ rw (nothing, i)) (t ∙ rw (nothing, i))

@@ -9,32 +9,27 @@ use lib.ListN.{length, getD, drop}
 use Rattle.condition.specs.declared.Condition.{Condition}
 use Rattle.condition.specs.Condition.{flag, wellFormed}
 use Rattle.condition.specs.Bytes.{runOf}
-use Rattle.condition.specs.Busy.{busyOf, flickerlessOf}
+use Rattle.condition.specs.declared.Figures.{Figures}
+use Rattle.condition.specs.Busy.{quickFigure, worstFigure, whileOn, busyOf, worstOf, flickerlessOf}
 use Rattle.condition.proofs.Good.{good}
 use Rattle.condition.proofs.Kept.{step-kept}
-use Rattle.condition.proofs.Pieces.{run-turn, busy-turn, flickerless-turn, run-ended, busy-ended, flickerless-ended}
-use Rattle.condition.proofs.Pieces.{figure-most}
-use Rattle.condition.proofs.Flags.{flag-most}
+use Rattle.condition.proofs.Pieces.{run-turn, total-turn, run-ended, total-ended, run-most}
 use Rattle.layout.specs.Layout.{conditionIn}
 use Rattle.layout.proofs.PackedBack.{sized-in}
 use Rattle.inplace.specs.InPlace.{Stepped, Carried}
 use Rattle.inplace.proofs.InPlace.{cursor-at, flickerless-at}
 
-pub step-most : (c : Condition) (b : ℕ) (k : Condition) (r : ℕ) → Stepped c b k r → r ≤ 65
-step-most c b k r s = rw (s .takes) (figure-most c b)
-
 -- after i bytes of bs, from the condition c: what stands in s, and what is spent
-pub record Going (c : Condition) (bs : List ℕ) (s : List ℕ) (busy flickerless i : ℕ) : Type 0 where
+pub record Going (c : Condition) (bs : List ℕ) (s : List ℕ) (busy flickerless worst i : ℕ) : Type 0 where
   pub upto : i ≤ length bs
   pub room : 200 ≤ length s
   pub formed : wellFormed (conditionIn s) ≡ true
   pub leaves : runOf (conditionIn s) (drop i bs) ≡ runOf c bs
   pub takes : busy + busyOf (conditionIn s) (drop i bs) ≡ busyOf c bs
   pub flickers : flickerless + flickerlessOf (conditionIn s) (drop i bs) ≡ flickerlessOf c bs
-  pub busy-65 : busy ≤ 65 * i
-  pub flickerless-1 : flickerless ≤ i
+  pub slowest : worst + worstOf (conditionIn s) (drop i bs) ≡ worstOf c bs
 
-pub going-starts : (s bs : List ℕ) → 200 ≤ length s → wellFormed (conditionIn s) ≡ true → Going (conditionIn s) bs s 0 0 0
+pub going-starts : (s bs : List ℕ) → 200 ≤ length s → wellFormed (conditionIn s) ≡ true → Going (conditionIn s) bs s 0 0 0 0
 going-starts s bs h w =
     record {
       upto = omega arith;
@@ -43,37 +38,40 @@ going-starts s bs h w =
       leaves = refl;
       takes = omega arith;
       flickers = omega arith;
-      busy-65 = omega arith;
-      flickerless-1 = omega arith;
+      slowest = omega arith;
     }
 
-module _ (c : Condition) (bs s : List ℕ) (busy flickerless i : ℕ) (g : Going c bs s busy flickerless i) where
+module _ (c : Condition) (bs s : List ℕ) (busy flickerless worst i : ℕ) (g : Going c bs s busy flickerless worst i) where
   pub going-place : getD s 3 0 < 40
   going-place = rw cursor-at at (good (conditionIn s) (g .formed) .cursor-40)
 
-  pub going-turns : (after : List ℕ) (r f : ℕ) → i < length bs → getD bs i 0 < 256 → length after ≡ length s
+  -- what is spent so far is no more than all bytes take
+  pub going-most : length bs ≤ 32768 → (busy ≤ 2129920) × (flickerless ≤ 32768) × (worst ≤ 8683520)
+  going-most h =
+      let m = run-most c bs in
+      (omega (arith, g .takes, m .0), omega (arith, g .flickers, m .1), omega (arith, g .slowest, m .2))
+
+  pub going-turns : (after : List ℕ) (r : Figures) (f : ℕ) → i < length bs → getD bs i 0 < 256 → length after ≡ length s
       → Stepped (conditionIn s) (getD bs i 0) (conditionIn after) r → f ≡ flag (eqb (getD s 12 0) 1)
-      → Going c bs after (busy + r) (flickerless + f) (i + 1)
+      → Going c bs after (busy + r .quick) (flickerless + f) (worst + r .worst) (i + 1)
   going-turns after r f h b l st e =
       let k = conditionIn s in
-      let m : r ≤ 65 = step-most k (getD bs i 0) (conditionIn after) r st in
-      let n : f ≤ 1 = rw e (flag-most (eqb (getD s 12 0) 1)) in
       record {
         upto = omega arith;
         room = omega (arith, g .room);
         formed = rw (st .leaves) (step-kept k (getD bs i 0) (sized-in s (g .room)) b (g .formed));
         leaves = rw (st .leaves) (run-turn k bs i h ∙ g .leaves);
-        takes = rw (st .leaves, st .takes) (omega (arith, busy-turn k bs i h, g .takes));
-        flickers = rw (st .leaves, e, ← flickerless-at s) (omega (arith, flickerless-turn k bs i h, g .flickers));
-        busy-65 = omega (arith, g .busy-65);
-        flickerless-1 = omega (arith, g .flickerless-1);
+        takes = rw (st .leaves, st .takes) (omega (arith, total-turn k bs i h quickFigure, g .takes));
+        flickers = rw (st .leaves, e, ← flickerless-at s) (omega (arith, total-turn k bs i h whileOn, g .flickers));
+        slowest = rw (st .leaves, st .takes) (omega (arith, total-turn k bs i h worstFigure, g .slowest));
       }
 
-  pub going-ends : length bs ≤ i → Carried c bs (conditionIn s) busy flickerless
+  pub going-ends : length bs ≤ i → Carried c bs (conditionIn s) busy flickerless worst
   going-ends h =
       let k = conditionIn s in
       record {
         leaves = sym (run-ended k bs i h) ∙ g .leaves;
-        takes = omega (arith, busy-ended k bs i h, g .takes);
-        flickers = omega (arith, flickerless-ended k bs i h, g .flickers);
+        takes = omega (arith, total-ended k bs i h quickFigure, g .takes);
+        flickers = omega (arith, total-ended k bs i h whileOn, g .flickers);
+        slowest = omega (arith, total-ended k bs i h worstFigure, g .slowest);
       }

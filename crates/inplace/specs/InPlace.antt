@@ -6,10 +6,11 @@ use lib.ListN.{set, replicate}
 use Rattle.row.specs.Row.{lineStart, shifted}
 use Rattle.users.specs.Users.{defineOf, usersIn}
 use Rattle.condition.specs.declared.Condition.{Condition}
+use Rattle.condition.specs.declared.Figures.{Figures}
 use Rattle.condition.specs.Condition.{powerUp}
 use Rattle.condition.specs.Set.{withCells, withUsers, withHeld}
 use Rattle.condition.specs.Bytes.{stepOf, runOf}
-use Rattle.condition.specs.Busy.{figureOf, busyOf, flickerlessOf}
+use Rattle.condition.specs.Busy.{figuresOf, busyOf, flickerlessOf, worstOf}
 
 -- the cursor's line shifts left one, and the code b comes to its column 19
 abbrev pub shiftOf : Condition → ℕ → Condition
@@ -38,13 +39,15 @@ releasedIn c = withHeld c (replicate 4 0)
 abbrev pub resetIn : Condition → ℕ → Condition
 resetIn c f = withUsers (withCells (powerUp f) (c .codes) (c .fonts)) (usersIn (c .users .bytes) 0)
 
--- a byte carried out: the condition after it, and its busy figure
-pub record Stepped (c : Condition) (b : ℕ) (after : Condition) (figure : ℕ) : Type 0 where
+-- a byte carried out: the condition after it, and its busy figures
+pub record Stepped (c : Condition) (b : ℕ) (after : Condition) (figures : Figures) : Type 0 where
   pub leaves : after ≡ stepOf c b
-  pub takes : figure ≡ figureOf c b
+  pub takes : figures ≡ figuresOf c b
 
--- bytes carried out in turn: the condition after them, their busy time and how many came while flickerless was on
-pub record Carried (c : Condition) (bs : List ℕ) (after : Condition) (busy flickerless : ℕ) : Type 0 where
+-- bytes carried out in turn: the condition after them, their busy time, how many came while flickerless was on, and their worst
+-- busy time
+pub record Carried (c : Condition) (bs : List ℕ) (after : Condition) (busy flickerless worst : ℕ) : Type 0 where
   pub leaves : after ≡ runOf c bs
   pub takes : busy ≡ busyOf c bs
   pub flickers : flickerless ≡ flickerlessOf c bs
+  pub slowest : worst ≡ worstOf c bs

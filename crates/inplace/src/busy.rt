@@ -1,11 +1,15 @@
-// Each byte's busy figure, in microseconds (document 01, Busy time and the tally).
+// Each byte's busy figures, in microseconds (document 01, Busy time and the tally; document 02, W2). The quick one is told by what
+// the byte does; the worst one follows from it.
 ghost use mathlib.Core.Path.{_≡_};
 ghost use Prim.Native.Nat.{_≤_, _<_};
+ghost use lib.Dec.{eqb};
 ghost use lib.ListN.{length, getD};
-ghost use Rattle.condition.specs.Busy.{rightScrolls, downScrolls, lineShifts, writeBusy, controlBusy, escapeBusy, figureOf};
+ghost use Rattle.condition.specs.Busy.{rightScrolls, downScrolls, lineShifts, writeBusy, controlBusy, escapeBusy};
+ghost use Rattle.condition.specs.Busy.{quickFigure, figuresBy};
 ghost use Rattle.layout.specs.Layout.{conditionIn};
 use crate::commands::below_19;
 use condition::Condition;
+use condition::Figures;
 use layout::CURSOR;
 use layout::HOLDS;
 use layout::KIND;
@@ -86,7 +90,7 @@ fn escape_busy(b: u8) -> u8
 
 pub(crate) fn continued_busy(s: &[u8], b: u8) -> u8
     requires { ⌜ (200 ≤ length (now s)) × (0 < getD (now s) 13 0) ⌝ }
-    ensures { λ r. ⌜ r ≡ figureOf (conditionIn (now (s .entry))) b ⌝ }
+    ensures { λ r. ⌜ r ≡ quickFigure (conditionIn (now (s .entry))) b ⌝ }
 {
     let kind = s[KIND];
     let n = s[HOLDS];
@@ -97,5 +101,24 @@ pub(crate) fn continued_busy(s: &[u8], b: u8) -> u8
         4 => 6,
         5 => 6,
         _ => if n < 4 { 6 } else { 15 },
+    }
+}
+
+// What flickerless mode may add to a byte's figure.
+const SLOWER: u16 = 200;
+
+// The figures of a byte, by its quick one and whether flickerless was on before it.
+pub(crate) fn figures(quick: u8, on: u8) -> Figures
+    ensures { λ r. ⌜ r ≡ figuresBy quick (eqb on 1) ⌝ }
+{
+    if on == 1 {
+        return Figures {
+            quick: quick,
+            worst: quick as u16 + SLOWER,
+        };
+    }
+    Figures {
+        quick: quick,
+        worst: quick as u16,
     }
 }

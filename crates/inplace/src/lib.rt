@@ -15,13 +15,14 @@ mod run;
 // The most bytes that are taken.
 const MOST_BYTES: usize = 32768;
 
-// What carrying bytes out answers: a refusal number, 0 when accepted, the condition after them, their busy time, and how many
-// came while flickerless was on.
+// What carrying bytes out answers: a refusal number, 0 when accepted, the condition after them, their busy time, how many came
+// while flickerless was on, and their worst busy time.
 pub struct After {
     pub refusal: u8,
     pub condition: Condition,
     pub busy: u32,
     pub flickerless: u32,
+    pub worst: u32,
 }
 
 fn untouched(refusal: u8, c: Condition) -> After
@@ -32,6 +33,7 @@ fn untouched(refusal: u8, c: Condition) -> After
         condition: c,
         busy: 0,
         flickerless: 0,
+        worst: 0,
     }
 }
 
@@ -53,5 +55,6 @@ pub fn carry(c: Condition, bytes: &[u8]) -> After
         condition: after,
         busy: spent.busy,
         flickerless: spent.flickerless,
+        worst: spent.worst,
     }
 }

@@ -11,15 +11,17 @@ ghost use Rattle.layout.specs.Layout.{conditionIn};
 ghost use Rattle.inplace.specs.InPlace.{Stepped, Carried};
 use crate::busy::continued_busy;
 use crate::busy::control_busy;
+use crate::busy::figures;
 use crate::busy::write_busy;
 use crate::characters::is_user;
 use crate::commands::control;
 use crate::commands::write;
 use crate::parameters::continued;
+use condition::Figures;
 use layout::FLICKERLESS;
 use layout::KIND;
 
-// A character is written; the answer is its busy figure.
+// A character is written; the answer is its quick busy figure.
 fn character(s: &mut [u8], b: u8) -> u8
     requires { ⌜ (200 ≤ length (now s)) × (getD (now s) 3 0 < 40) ⌝ }
     ensures { λ r. ⌜ (conditionIn (now (s .exit)) ≡ writeOf (conditionIn (now (s .entry))) b)
@@ -30,26 +32,28 @@ fn character(s: &mut [u8], b: u8) -> u8
     figure
 }
 
-// What a byte does; the answer is its busy figure. Printable bytes are told first: they are the most.
-fn step(s: &mut [u8], b: u8) -> u8
+// What a byte does; the answer is its busy figures. Whether flickerless is on is looked at before the byte is carried out, which may
+// change it. Printable bytes are told first: they are the most.
+fn step(s: &mut [u8], b: u8) -> Figures
     requires { ⌜ (200 ≤ length (now s)) × (getD (now s) 3 0 < 40) ⌝ }
     ensures { λ r. ⌜ Stepped (conditionIn (now (s .entry))) b (conditionIn (now (s .exit))) r ⌝ }
 {
+    let on = s[FLICKERLESS];
     let kind = s[KIND];
     if kind != 0 {
-        let figure = continued_busy(s, b);
+        let quick = continued_busy(s, b);
         continued(s, b);
-        return figure;
+        return figures(quick, on);
     }
     if 0x20 <= b {
-        return character(s, b);
+        return figures(character(s, b), on);
     }
     if is_user(s, b) {
-        return character(s, b);
+        return figures(character(s, b), on);
     }
-    let figure = control_busy(s, b);
+    let quick = control_busy(s, b);
     control(s, b);
-    figure
+    figures(quick, on)
 }
 
 fn one_if(on: u8) -> u32
@@ -62,24 +66,29 @@ fn one_if(on: u8) -> u32
 pub(crate) struct Spent {
     pub(crate) busy: u32,
     pub(crate) flickerless: u32,
+    pub(crate) worst: u32,
 }
 
 // What bytes do, in turn.
 pub(crate) fn run_in(s: &mut [u8], bytes: &[u8]) -> Spent
     requires { ⌜ (200 ≤ length (now s)) × (wellFormed (conditionIn (now s)) ≡ true) × (length (now bytes) ≤ 32768) ⌝ }
     ensures { λ r. ⌜ Carried (conditionIn (now (s .entry))) (now (bytes .entry))
-        (conditionIn (now (s .exit))) (r .busy) (r .flickerless) ⌝ }
+        (conditionIn (now (s .exit))) (r .busy) (r .flickerless) (r .worst) ⌝ }
 {
     let mut busy: u32 = 0;
     let mut flickerless: u32 = 0;
+    let mut worst: u32 = 0;
     let mut i: usize = 0;
     while i < bytes.len() {
         flickerless += one_if(s[FLICKERLESS]);
-        busy += step(s, bytes[i]) as u32;
+        let figures = step(s, bytes[i]);
+        busy += figures.quick as u32;
+        worst += figures.worst as u32;
         i += 1;
     }
     Spent {
         busy: busy,
         flickerless: flickerless,
+        worst: worst,
     }
 }

@@ -12,10 +12,10 @@ use Rattle.laws.proofs.Tests.{both, by-test}
 use Rattle.condition.specs.declared.Condition.{Condition}
 use Rattle.condition.specs.Condition.{wellFormed}
 use Rattle.condition.specs.Bytes.{runOf}
-use Rattle.condition.specs.Busy.{busyOf, flickerlessOf}
+use Rattle.condition.specs.Busy.{totalOf, quickFigure, worstFigure, whileOn, busyOf, flickerlessOf, worstOf}
 use Rattle.condition.proofs.Good.{Sized, run-sized}
 use Rattle.condition.proofs.Kept.{run-kept}
-use Rattle.condition.proofs.Pieces.{run-append, busy-append, flickerless-append, busy-most, flickerless-most}
+use Rattle.condition.proofs.Pieces.{run-append, total-append, run-most}
 use Rattle.interpreter.specs.declared.Tally.{Tally}
 use Rattle.interpreter.specs.declared.Ran.{Ran}
 use Rattle.inplace.specs.InPlace.{Carried}
@@ -29,16 +29,19 @@ pub record Within (t : Tally) : Type 0 where
   pub bytes : t .bytes ≤ 4000000000
   pub busy : t .busy ≤ 4000000000
   pub flickerless : t .flickerless ≤ 4000000000
+  pub worst : t .worst ≤ 4000000000
 
 pub within : (t : Tally) → withinLimit t ≡ true → Within t
 unfolding withinLimit
 within t e =
-    let p = both (leb (t .bytes) limit && leb (t .busy) limit) (leb (t .flickerless) limit) e in
-    let q = both (leb (t .bytes) limit) (leb (t .busy) limit) (p .0) in
+    let p = both (leb (t .bytes) limit && leb (t .busy) limit && leb (t .flickerless) limit) (leb (t .worst) limit) e in
+    let q = both (leb (t .bytes) limit && leb (t .busy) limit) (leb (t .flickerless) limit) (p .0) in
+    let r = both (leb (t .bytes) limit) (leb (t .busy) limit) (q .0) in
     record {
-      bytes = leb-true (t .bytes) limit (q .0);
-      busy = leb-true (t .busy) limit (q .1);
-      flickerless = leb-true (t .flickerless) limit (p .1);
+      bytes = leb-true (t .bytes) limit (r .0);
+      busy = leb-true (t .busy) limit (r .1);
+      flickerless = leb-true (t .flickerless) limit (q .1);
+      worst = leb-true (t .worst) limit (p .1);
     }
 
 -- refused, by its number
@@ -98,27 +101,29 @@ module _ (c : Condition) (t : Tally) (bs : List ℕ) (r : Ran) where
             kept = λ z. ap (λ (r : Ran). wellFormed (r .condition)) e ∙ run-kept c bs s b (accepts c bs k .0);
           }
 
--- what a run adds is small
-pub adds : (c k : Condition) (bs : List ℕ) (busy flickerless : ℕ) → Carried c bs k busy flickerless → length bs ≤ 32768
-    → (busy ≤ 2129920) × (flickerless ≤ 32768)
-adds c k bs busy flickerless g h =
-    (omega (arith, g .takes, busy-most c bs), omega (arith, g .flickers, flickerless-most c bs))
+module _ (c k : Condition) (bs : List ℕ) (busy flickerless worst : ℕ) (g : Carried c bs k busy flickerless worst) where
+  -- what a run adds is small
+  pub adds : length bs ≤ 32768 → (busy ≤ 2129920) × (flickerless ≤ 32768) × (worst ≤ 8683520)
+  adds h =
+      let m = run-most c bs in
+      (omega (arith, g .takes, m .0), omega (arith, g .flickers, m .1), omega (arith, g .slowest, m .2))
 
--- the tally, brought up to date
-pub tallies : (t : Tally) (c k : Condition) (bs : List ℕ) (busy flickerless : ℕ) → Carried c bs k busy flickerless
-    → record { bytes = t .bytes + length bs; busy = t .busy + busy; flickerless = t .flickerless + flickerless } ≡ tallied t c bs
-unfolding tallied
-tallies t c k bs busy flickerless g = rw (g .takes, g .flickers)
+  -- the tally, brought up to date
+  abbrev added : Tally → Tally
+  added t =
+      record {
+        bytes = t .bytes + length bs;
+        busy = t .busy + busy;
+        flickerless = t .flickerless + flickerless;
+        worst = t .worst + worst;
+      }
 
-pub ran : (t : Tally) (c k : Condition) (bs : List ℕ) (busy flickerless : ℕ) → Carried c bs k busy flickerless
-    → _≡_ {A = Ran}
-    (record {
-      refusal = 0;
-      condition = k;
-      tally = record { bytes = t .bytes + length bs; busy = t .busy + busy; flickerless = t .flickerless + flickerless };
-    })
-    (acceptedOf c t bs)
-ran t c k bs busy flickerless g = rw (g .leaves, tallies t c k bs busy flickerless g)
+  pub tallies : (t : Tally) → added t ≡ tallied t c bs
+  unfolding tallied
+  tallies t = rw (g .takes, g .flickers, g .slowest)
+
+  pub ran : (t : Tally) → _≡_ {A = Ran} (record { refusal = 0; condition = k; tally = added t }) (acceptedOf c t bs)
+  ran t = rw (g .leaves, tallies t)
 
 -- Any two answers that a promise allows are equal --------------------------------------------------------------------------
 
@@ -140,11 +145,13 @@ accepted-append c t xs ys =
     rw (
       run-append c xs ys,
       length-append xs ys,
-      busy-append c xs ys,
-      flickerless-append c xs ys,
+      total-append quickFigure c xs ys,
+      total-append whileOn c xs ys,
+      total-append worstFigure c xs ys,
       ← add-assoc (t .bytes) (length xs) (length ys),
       ← add-assoc (t .busy) (busyOf c xs) (busyOf (runOf c xs) ys),
       ← add-assoc (t .flickerless) (flickerlessOf c xs) (flickerlessOf (runOf c xs) ys),
+      ← add-assoc (t .worst) (worstOf c xs) (worstOf (runOf c xs) ys),
     )
 
 not-refused : (c : Condition) (t : Tally) (bs : List ℕ) → runAnswer c t bs .refusal ≡ 0 → runAnswer c t bs ≡ acceptedOf c t bs
@@ -155,7 +162,7 @@ not-refused c t bs =
 
 turns : (c : Condition) (t : Tally) (pieces : List (List ℕ))
     → inTurn c t pieces .refusal ≡ 0 → inTurn c t pieces ≡ acceptedOf c t (flatten pieces)
-unfolding inTurn flatten runOf tallied busyOf flickerlessOf
+unfolding inTurn flatten runOf tallied totalOf
 turns c t [] = λ _. simp add-zero
 turns c t (bs ∷ pieces) =
     by-test (λ (r : Ran). r .refusal ≡ 0 → r ≡ acceptedOf c t (bs ++ flatten pieces)) (eqb (runAnswer c t bs .refusal) 0)

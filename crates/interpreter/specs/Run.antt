@@ -1,4 +1,4 @@
--- A run and the tally (document 01, Busy time and the tally; Refusal numbers and their order).
+-- A run and the tally (document 01, Busy time and the tally; Refusal numbers and their order; document 02, W2).
 use Prim.Native.Nat.{ℕ, _+_}
 use mathlib.Core.Path.{_≡_}
 use mathlib.Core.List.{List, [], _∷_}
@@ -8,7 +8,7 @@ use lib.Dec.{eqb, ltb, leb}
 use Rattle.condition.specs.declared.Condition.{Condition}
 use Rattle.condition.specs.Condition.{wellFormed}
 use Rattle.condition.specs.Bytes.{runOf}
-use Rattle.condition.specs.Busy.{busyOf, flickerlessOf}
+use Rattle.condition.specs.Busy.{busyOf, flickerlessOf, worstOf}
 use Rattle.interpreter.specs.declared.Tally.{Tally}
 use Rattle.interpreter.specs.declared.Ran.{Ran}
 
@@ -17,15 +17,20 @@ abbrev pub limit : ℕ
 limit = 4000000000
 
 unfoldable pub withinLimit : Tally → Bool
-withinLimit t = leb (t .bytes) limit && leb (t .busy) limit && leb (t .flickerless) limit
+withinLimit t = leb (t .bytes) limit && leb (t .busy) limit && leb (t .flickerless) limit && leb (t .worst) limit
 
--- A run adds to three numbers: bytes, busy, and bytes received while flickerless was already on
+-- the tally before any run
+abbrev pub zeroTally : Tally
+zeroTally = record { bytes = 0; busy = 0; flickerless = 0; worst = 0 }
+
+-- A run adds to four numbers: bytes, busy, bytes received while flickerless was already on, and the worst total
 unfoldable pub tallied : Tally → Condition → List ℕ → Tally
 tallied t c bs =
     record {
       bytes = t .bytes + length bs;
       busy = t .busy + busyOf c bs;
       flickerless = t .flickerless + flickerlessOf c bs;
+      worst = t .worst + worstOf c bs;
     }
 
 -- 3: condition not well formed, tally above its limit. 4: more than 32,768 bytes in a run. 5: a tally number would pass its limit

@@ -1,18 +1,31 @@
 // A run: what bytes do to a condition and to the tally.
 ghost use mathlib.Core.Path.{_≡_};
-ghost use Rattle.interpreter.specs.Run.{withinLimit, refusedOf, RunPromise, LentPromise};
+ghost use Rattle.interpreter.specs.Run.{withinLimit, zeroTally, refusedOf, RunPromise, LentPromise};
 use condition::Condition;
 
-// What a run adds to: bytes, busy microseconds, and bytes received while flickerless was already on.
+// What a run adds to: bytes, busy microseconds, bytes received while flickerless was already on, and busy microseconds at the worst.
 pub struct Tally {
     pub bytes: u32,
     pub busy: u32,
     pub flickerless: u32,
+    pub worst: u32,
 }
 
 impl Tally {
     // The most that each may be.
     pub const LIMIT: u32 = 4000000000;
+
+    // The tally before any run.
+    pub fn zero() -> Tally
+        ensures { λ r. ⌜ r ≡ zeroTally ⌝ }
+    {
+        Tally {
+            bytes: 0,
+            busy: 0,
+            flickerless: 0,
+            worst: 0,
+        }
+    }
 }
 
 // A run's answer: a refusal number, 0 when accepted, and the condition and the tally after it.
@@ -25,7 +38,10 @@ pub struct Ran {
 fn within_limit(t: Tally) -> bool
     ensures { λ r. ⌜ r ≡ withinLimit t ⌝ }
 {
-    (t.bytes <= Tally::LIMIT) & (t.busy <= Tally::LIMIT) & (t.flickerless <= Tally::LIMIT)
+    (t.bytes <= Tally::LIMIT)
+        & (t.busy <= Tally::LIMIT)
+        & (t.flickerless <= Tally::LIMIT)
+        & (t.worst <= Tally::LIMIT)
 }
 
 fn refused(n: u8, c: Condition, t: Tally) -> Ran
@@ -54,6 +70,7 @@ pub fn run(c: Condition, t: Tally, bytes: &[u8]) -> Ran
         bytes: t.bytes + bytes.len() as u32,
         busy: t.busy + after.busy,
         flickerless: t.flickerless + after.flickerless,
+        worst: t.worst + after.worst,
     };
     if !within_limit(next) {
         return refused(5, c, t);
@@ -65,7 +82,7 @@ pub fn run(c: Condition, t: Tally, bytes: &[u8]) -> Ran
     }
 }
 
-// The same with the tally lent: the three numbers are brought up to date there.
+// The same with the tally lent: its numbers are brought up to date there.
 pub fn run_lent(t: &mut Tally, c: Condition, bytes: &[u8]) -> Ran
     ensures { λ r. ⌜ LentPromise c (now (t .entry)) (now (bytes .entry)) r (now (t .exit)) ⌝ }
 {

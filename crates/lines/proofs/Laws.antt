@@ -168,11 +168,13 @@ pub decimal-length : (n : ℕ) → length (decimalOf n) ≤ 20
 unfolding decimalOf
 decimal-length n = decimal-in-length 20 n
 
--- what ends a print has at most 86 bytes
-pub print-length : (body : List ℕ) (r : Ran) → length (printOf body r) ≤ length body + 86
+-- what ends a print has at most 113 bytes
+pub print-length : (body : List ℕ) (r : Ran) → length (printOf body r) ≤ length body + 113
 unfolding printOf tallyLine refusedLine
 print-length body r =
-    by-test (λ (x : List ℕ). length x ≤ length body + 86) (eqb (r .refusal) 0)
+    by-test (λ (x : List ℕ). length x ≤ length body + 113) (eqb (r .refusal) 0)
     (λ _. let t = r .tally in
-    simp length-append (omega (arith, decimal-length (t .bytes), decimal-length (t .busy), decimal-length (t .flickerless))))
+    let first = decimal-length (t .bytes) in
+    let last = decimal-length (t .worst) in
+    simp length-append (omega (arith, first, decimal-length (t .busy), decimal-length (t .flickerless), last)))
     (λ _. simp length-append (omega (arith, decimal-length (r .refusal))))

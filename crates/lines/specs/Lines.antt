@@ -11,7 +11,7 @@ use Rattle.row.specs.Row.{laid}
 use Rattle.condition.specs.Condition.{powerUp}
 use Rattle.interpreter.specs.declared.Tally.{Tally}
 use Rattle.interpreter.specs.declared.Ran.{Ran}
-use Rattle.interpreter.specs.Run.{runAnswer}
+use Rattle.interpreter.specs.Run.{zeroTally, runAnswer}
 
 -- a text as bytes, one for each character (the texts here are ASCII)
 abbrev pub text : String → List ℕ
@@ -55,11 +55,12 @@ numbered word n = word ++ decimalOf n
 abbrev pub newLine : List ℕ
 newLine = text "\n"
 
--- the tally: `bytes B busy T flickerless F`
+-- the tally: `bytes B busy T flickerless F worst N`
 unfoldable pub tallyLine : Tally → List ℕ
 tallyLine t =
     numbered (text "bytes ") (t .bytes)
-    ++ (numbered (text " busy ") (t .busy) ++ (numbered (text " flickerless ") (t .flickerless) ++ newLine))
+    ++ (numbered (text " busy ") (t .busy)
+    ++ (numbered (text " flickerless ") (t .flickerless) ++ (numbered (text " worst ") (t .worst) ++ newLine)))
 
 -- `refused N`
 unfoldable pub refusedLine : ℕ → List ℕ
@@ -78,8 +79,5 @@ printOf body r = cond (eqb (r .refusal) 0) (body ++ tallyLine (r .tally)) (refus
 
 -- The run that both programs print: of their input, from power-up font 0 with a zero tally
 
-abbrev pub noTally : Tally
-noTally = record { bytes = 0; busy = 0; flickerless = 0 }
-
 abbrev pub runFromStart : List ℕ → Ran
-runFromStart input = runAnswer (powerUp 0) noTally input
+runFromStart input = runAnswer (powerUp 0) zeroTally input

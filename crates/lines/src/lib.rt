@@ -57,5 +57,6 @@ pub fn add_end(out: &mut [u8], k: usize, r: Ran) -> usize
     let first = add_number(out, k, b"bytes ", t.bytes as u64);
     let second = add_number(out, first, b" busy ", t.busy as u64);
     let third = add_number(out, second, b" flickerless ", t.flickerless as u64);
-    add_word(out, third, b"\n")
+    let fourth = add_number(out, third, b" worst ", t.worst as u64);
+    add_word(out, fourth, b"\n")
 }

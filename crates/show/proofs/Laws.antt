@@ -12,7 +12,7 @@ hex-length : (codes : List ℕ) → length (hexLine codes) ≤ length codes * 3
 unfolding hexLine codeText
 hex-length codes = each-length (codeText codes) 3 (length codes) (λ i. omega arith)
 
-pub shown-length : (r : Ran) → length (r .condition .codes) ≡ 40 → length (shownOf r) ≤ 286
+pub shown-length : (r : Ran) → length (r .condition .codes) ≡ 40 → length (shownOf r) ≤ 313
 unfolding reportOf cellLines placeLine
 shown-length r h =
     let c = r .condition in

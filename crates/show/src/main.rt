@@ -52,7 +52,7 @@ fn add_place(out: &mut [u8], k: usize, c: Condition) -> usize
 
 // What is printed of a run: its four lines, or its refusal alone.
 fn add_shown(out: &mut [u8], r: Ran) -> usize
-    requires { ⌜ 286 ≤ length (now out) ⌝ }
+    requires { ⌜ 313 ≤ length (now out) ⌝ }
     ensures { λ n. ⌜ (take n (now (out .exit)) ≡ shownOf r) × (n ≤ length (now (out .exit))) ⌝ }
 {
     let c = r.condition;
@@ -64,16 +64,12 @@ fn add_shown(out: &mut [u8], r: Ran) -> usize
 
 // What is shown of an input.
 fn show(out: &mut [u8], input: &[u8]) -> usize
-    requires { ⌜ 286 ≤ length (now out) ⌝ }
+    requires { ⌜ 313 ≤ length (now out) ⌝ }
     ensures { λ n. ⌜ (take n (now (out .exit)) ≡ shownOf (runFromStart (now (input .entry)))) × (n ≤ length (now (out .exit))) ⌝ }
 {
     let start = Condition::power_up(0);
     let c = start.condition;
-    let zero = Tally {
-        bytes: 0,
-        busy: 0,
-        flickerless: 0,
-    };
+    let zero = Tally::zero();
     let r = interpreter::run(c, zero, input);
     add_shown(out, r)
 }

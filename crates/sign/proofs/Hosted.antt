@@ -38,16 +38,16 @@ use Rattle.sign.specs.Calls.{HostRun, HostPromise, hostPowerUpRefusal, h
 
 -- ---- the run
 
-pub run-short : (b t bs : List ℕ) → (length t ≡ 12 → ⊥) → HostRun b t bs 1 b t
+pub run-short : (b t bs : List ℕ) → (length t ≡ 16 → ⊥) → HostRun b t bs 1 b t
 unfolding hostRefusalBy hostRunRefusal blockAfter tallyAfter
 run-short b t bs h =
-    let e = ne-eqb (length t) 12 h in
+    let e = ne-eqb (length t) 16 h in
     record { answer = simp e; block = simp e; tally = simp e; again = λ z. let q : ⊥ = omega arith in absurd q }
 
-module _ (b t bs : List ℕ) (h : length t ≡ 12) where
+module _ (b t bs : List ℕ) (h : length t ≡ 16) where
   by-block : hostRunRefusal b t bs ≡ hostRefusalBy true b (ranOf b t bs .refusal)
   unfolding hostRunRefusal
-  by-block = rw (eq-eqb (length t) 12 h)
+  by-block = rw (eq-eqb (length t) 16 h)
 
   -- refused, by its number: nothing changes
   run-refused : (n : ℕ) → hostRunRefusal b t bs ≡ n → (n ≡ 0 → ⊥) → HostRun b t bs n b t
@@ -95,8 +95,8 @@ module _ (b t bs : List ℕ) (h : length t ≡ 12) where
       run-written b′ t′ n good eb en et =
           let room : length b ≡ 512 = whole-length b (whole b g o z) in
           let s : Sized (r .condition) = rw told (ran-sized (conditionIn b) (tallyAt t) bs (sized-in b (omega arith))) in
-          let twelve : length n ≡ 12 = ap length en in
-          run-done b′ t′ good s (eb ∙ put-whole (r .condition) b room) (et ∙ filled n t 12 twelve h ∙ en)
+          let sixteen : length n ≡ 16 = ap length en in
+          run-done b′ t′ good s (eb ∙ put-whole (r .condition) b room) (et ∙ filled n t 16 sixteen h ∙ en)
 
 -- ---- the plans
 

@@ -28,10 +28,10 @@ abbrev pub fourBytes : ℕ → List ℕ
 fourBytes n = n / 1 % 256 ∷ n / 256 % 256 ∷ n / 65536 % 256 ∷ n / 16777216 % 256 ∷ []
 
 unfoldable pub tallyAt : List ℕ → Tally
-tallyAt s = record { bytes = numberAt s 0; busy = numberAt s 4; flickerless = numberAt s 8 }
+tallyAt s = record { bytes = numberAt s 0; busy = numberAt s 4; flickerless = numberAt s 8; worst = numberAt s 12 }
 
 unfoldable pub tallyBytes : Tally → List ℕ
-tallyBytes t = fourBytes (t .bytes) ++ (fourBytes (t .busy) ++ fourBytes (t .flickerless))
+tallyBytes t = fourBytes (t .bytes) ++ (fourBytes (t .busy) ++ (fourBytes (t .flickerless) ++ fourBytes (t .worst)))
 
 -- Run ---------------------------------------------------------------------------------------------------------------------
 
@@ -39,9 +39,9 @@ tallyBytes t = fourBytes (t .bytes) ++ (fourBytes (t .busy) ++ fourBytes (t .fli
 abbrev pub ranOf : List ℕ → List ℕ → List ℕ → Ran
 ranOf b t bs = runAnswer (conditionIn b) (tallyAt t) bs
 
--- 1: a block not 512 bytes or a host tally not 12; 2 and 3: as reading the block; 3, 4, 5: as the run
+-- 1: a block not 512 bytes or a host tally not 16; 2 and 3: as reading the block; 3, 4, 5: as the run
 unfoldable pub hostRunRefusal : List ℕ → List ℕ → List ℕ → ℕ
-hostRunRefusal b t bs = hostRefusalBy (eqb (length t) 12) b (ranOf b t bs .refusal)
+hostRunRefusal b t bs = hostRefusalBy (eqb (length t) 16) b (ranOf b t bs .refusal)
 
 -- run changes the block and the tally together, or neither
 unfoldable pub blockAfter : List ℕ → List ℕ → List ℕ → List ℕ

@@ -9,8 +9,8 @@ use condition::Condition;
 use host::Base;
 use interpreter::Tally;
 
-// The host's tally: three four-byte numbers.
-const TALLY: usize = 12;
+// The host's tally: four four-byte numbers.
+const TALLY: usize = 16;
 
 fn join(a: u8, b: u8, c: u8, d: u8) -> u32
     ensures { λ r. ⌜ r ≡ a + b * 256 + c * 65536 + d * 16777216 ⌝ }
@@ -27,13 +27,14 @@ fn number_at(s: &[u8], at: usize) -> u32
 }
 
 fn tally_at(s: &[u8]) -> Tally
-    requires { ⌜ length (now s) ≡ 12 ⌝ }
+    requires { ⌜ length (now s) ≡ 16 ⌝ }
     ensures { λ r. ⌜ r ≡ tallyAt (now (s .entry)) ⌝ }
 {
     Tally {
         bytes: number_at(s, 0),
         busy: number_at(s, 4),
         flickerless: number_at(s, 8),
+        worst: number_at(s, 12),
     }
 }
 
@@ -62,6 +63,7 @@ fn tally_bytes(t: Tally) -> [u8; TALLY]
     let a = four_bytes(t.bytes);
     let b = four_bytes(t.busy);
     let c = four_bytes(t.flickerless);
+    let d = four_bytes(t.worst);
     [
         a[0],
         a[1],
@@ -75,6 +77,10 @@ fn tally_bytes(t: Tally) -> [u8; TALLY]
         c[1],
         c[2],
         c[3],
+        d[0],
+        d[1],
+        d[2],
+        d[3],
     ]
 }
 

@@ -133,11 +133,7 @@ fn tell(out: &mut [u8], input: &[u8]) -> usize
 {
     let start = Condition::power_up(0);
     let c = start.condition;
-    let zero = Tally {
-        bytes: 0,
-        busy: 0,
-        flickerless: 0,
-    };
+    let zero = Tally::zero();
     let r = ran(c, zero, input);
     add_told(out, r)
 }

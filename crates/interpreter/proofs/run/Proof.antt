@@ -28,7 +28,7 @@ whole c = sym (refusal-is _ _ _ (c .before .before .carry .ensures)) ∙ c .if2 
 did : (c : tie.Else2)
     → Carried (c .before .before .before .before .before .before .args .c)
     (c .before .before .before .before .before .before .args .bytes .now) (c .before .before .carry .result .condition)
-    (c .before .before .carry .result .busy) (c .before .before .carry .result .flickerless)
+    (c .before .before .carry .result .busy) (c .before .before .carry .result .flickerless) (c .before .before .carry .result .worst)
 did c = taken _ _ _ (c .before .before .carry .ensures) (c .if2 .left)
 
 within-limit-requires : tie.Need-within-limit-requires
@@ -64,12 +64,17 @@ add-t11 c =
 add-t12 : tie.Need-add-t12
 add-t12 c =
     let k = c .before .before .before .before in
-    omega (arith, within _ (limited (k .before .before .before)) .busy, adds _ _ _ _ _ (did k) (accepts _ _ (whole k) .1) .0)
+    omega (arith, within _ (limited (k .before .before .before)), adds _ _ _ _ _ _ (did k) (accepts _ _ (whole k) .1))
 
 add-t13 : tie.Need-add-t13
 add-t13 c =
     let k = c .before .before .before .before .before .before in
-    omega (arith, within _ (limited (k .before .before .before)) .flickerless, adds _ _ _ _ _ (did k) (accepts _ _ (whole k) .1) .1)
+    omega (arith, within _ (limited (k .before .before .before)), adds _ _ _ _ _ _ (did k) (accepts _ _ (whole k) .1))
+
+add-t14 : tie.Need-add-t14
+add-t14 c =
+    let k = c .before .before .before .before .before .before .before .before in
+    omega (arith, within _ (limited (k .before .before .before)), adds _ _ _ _ _ _ (did k) (accepts _ _ (whole k) .1))
 
 within-limit-requires-2 : tie.Need-within-limit-requires-2
 within-limit-requires-2 c κs = search needs
@@ -79,18 +84,18 @@ refused-requires-3 c κs = search needs
 
 returns-3 : tie.Need-returns-3
 returns-3 c =
-    let k = c .before .before .before .before .before .before .before .before .before in
+    let k = c .before .before .before .before .before .before .before .before .before .before .before in
     passes-limit _ _ _ _ (limited (k .before .before .before)) (whole k)
-    (sym (ap withinLimit (tallies _ _ _ _ _ _ (did k))) ∙ sym (c .before .before .within-limit2 .ensures)
+    (sym (ap withinLimit (tallies _ _ _ _ _ _ (did k) _)) ∙ sym (c .before .before .within-limit2 .ensures)
     ∙ not-true _ (c .before .if3 .taken)) (c .refused3 .ensures)
 
 returns-4 : tie.Need-returns-4
 returns-4 c =
-    let k = c .before .before .before .before .before .before .before .before in
+    let k = c .before .before .before .before .before .before .before .before .before .before in
     let a = k .before .before .before .before .before in
     accepted _ _ _ _ (limited (k .before .before .before)) (whole k)
-    (sym (ap withinLimit (tallies _ _ _ _ _ _ (did k))) ∙ sym (c .before .within-limit2 .ensures) ∙ not-false _ (c .if3 .left))
-    (sized (a .before)) (λ i. a .shared-slice-known .given i .fits) (ran _ _ _ _ _ _ (did k))
+    (sym (ap withinLimit (tallies _ _ _ _ _ _ (did k) _)) ∙ sym (c .before .within-limit2 .ensures) ∙ not-false _ (c .if3 .left))
+    (sized (a .before)) (λ i. a .shared-slice-known .given i .fits) (ran _ _ _ _ _ _ (did k) _)
 
 pub run-spec : {M : Type 1} → statement M
 run-spec =
@@ -106,6 +111,7 @@ run-spec =
     add-t11
     add-t12
     add-t13
+    add-t14
     within-limit-requires-2
     refused-requires-3
     returns-3

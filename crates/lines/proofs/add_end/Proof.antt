@@ -57,6 +57,15 @@ cast-add-number-4 c = search needs
 add-number-requires-4 : tie.Need-add-number-requires-4
 add-number-requires-4 c κs = search needs
 
+slice-aggregate-add-number-5 : tie.Need-slice-aggregate-add-number-5
+slice-aggregate-add-number-5 c = search needs
+
+cast-add-number-5 : tie.Need-cast-add-number-5
+cast-add-number-5 c = search needs
+
+add-number-requires-5 : tie.Need-add-number-requires-5
+add-number-requires-5 c κs = search needs
+
 slice-aggregate-add-word-2 : tie.Need-slice-aggregate-add-word-2
 slice-aggregate-add-word-2 c = search needs
 
@@ -69,12 +78,14 @@ same-length-2 c = search needs
 returns-2 : tie.Need-returns-2
 unfolding endStart endOf tallyLine
 returns-2 c =
-    let f = c .before .before .before .before .before .before .before in
+    let w = c .before .before .before .before .before .before .before in
+    let f = w .before .before .before .before .before .before in
     let t = f .before .before .before .before .before .before in
     let b = t .before .before .before .before .before .before in
     rw (eq-eqb _ _ (b .before .before .before .before .before .if1 .left))
     (both-added (b .add-number2 .ensures)
-    (both-added (t .add-number3 .ensures) (both-added (f .add-number4 .ensures) (c .before .before .add-word2 .ensures))))
+    (both-added (t .add-number3 .ensures)
+    (both-added (f .add-number4 .ensures) (both-added (w .add-number5 .ensures) (c .before .before .add-word2 .ensures)))))
 
 pub add-end-spec : {M : Type 1} → statement M
 add-end-spec =
@@ -96,6 +107,9 @@ add-end-spec =
     slice-aggregate-add-number-4
     cast-add-number-4
     add-number-requires-4
+    slice-aggregate-add-number-5
+    cast-add-number-5
+    add-number-requires-5
     slice-aggregate-add-word-2
     add-word-requires-2
     same-length-2

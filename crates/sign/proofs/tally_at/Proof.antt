@@ -12,10 +12,15 @@ number-at-requires-2 c κs = search needs
 number-at-requires-3 : tie.Need-number-at-requires-3
 number-at-requires-3 c κs = search needs
 
+number-at-requires-4 : tie.Need-number-at-requires-4
+number-at-requires-4 c κs = search needs
+
 returns : tie.Need-returns
 unfolding tallyAt
-returns c = rw (c .number-at3 .ensures, c .before .number-at2 .ensures, c .before .before .number-at .ensures)
+returns c =
+    let n = c .before .before in
+    rw (c .number-at4 .ensures, c .before .number-at3 .ensures, n .number-at2 .ensures, n .before .number-at .ensures)
 
 pub tally-at-spec : {M : Type 1} → statement M
 tally-at-spec =
-    tie.close (tie.spec number-at-requires number-at-requires-2 number-at-requires-3 returns)
+    tie.close (tie.spec number-at-requires number-at-requires-2 number-at-requires-3 number-at-requires-4 returns)

@@ -1,4 +1,4 @@
-use Rattle.condition.specs.Busy.{figureAt}
+use Rattle.condition.specs.Busy.{quickAt}
 use Rattle.inplace.proofs.InPlace.{pending-at}
 use Rattle.inplace.proofs.Branches.{awaits-data}
 use borrow.Author.Tests.{le-ltb, lt-ltb}
@@ -16,27 +16,27 @@ escape-busy-requires : tie.Need-escape-busy-requires
 escape-busy-requires c κs = search needs
 
 returns : tie.Need-returns
-unfolding figureAt
+unfolding quickAt
 returns c = rw (c .escape-busy .ensures, pending-at, c .before .match .keys1)
 
 returns-2 : tie.Need-returns-2
-unfolding figureAt
+unfolding quickAt
 returns-2 c = rw (pending-at, c .match .keys2)
 
 returns-3 : tie.Need-returns-3
-unfolding figureAt
+unfolding quickAt
 returns-3 c = rw (pending-at, c .match .keys3)
 
 returns-4 : tie.Need-returns-4
-unfolding figureAt
+unfolding quickAt
 returns-4 c = rw (pending-at, c .match .keys4)
 
 returns-5 : tie.Need-returns-5
-unfolding figureAt
+unfolding quickAt
 returns-5 c = rw (pending-at, c .match .keys5)
 
 returns-6 : tie.Need-returns-6
-unfolding figureAt
+unfolding quickAt
 returns-6 c =
     let r = c .before .match .rest in
     rw (
@@ -46,7 +46,7 @@ returns-6 c =
     )
 
 returns-7 : tie.Need-returns-7
-unfolding figureAt
+unfolding quickAt
 returns-7 c =
     let r = c .before .match .rest in
     rw (

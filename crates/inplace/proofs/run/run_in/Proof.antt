@@ -4,16 +4,16 @@ use native.Mathlib.Omega.{arith}
 use borrow.Author.Needs.{needs}
 use lib.ListN.{length}
 use Rattle.layout.specs.Layout.{conditionIn}
-use Rattle.inplace.proofs.Running.{Going, going-starts, going-place, going-turns, going-ends, step-most}
+use Rattle.inplace.proofs.Running.{Going, going-starts, going-place, going-most, going-turns, going-ends}
 use Rattle.inplace.proofs.run.run_in.Statement.{statement}
 use Rattle.inplace.proofs.run.run_in.Tie as tie
 
 abbrev Inv-loop : tie.InvT-loop
-Inv-loop s₀ bytes busy₀ flickerless₀ i₀ s busy flickerless i =
-    Going (conditionIn s₀) bytes s busy flickerless i × (length bytes ≤ 32768) × (length s ≡ length s₀)
+Inv-loop s₀ bytes busy₀ flickerless₀ worst₀ i₀ s busy flickerless worst i =
+    Going (conditionIn s₀) bytes s busy flickerless worst i × (length bytes ≤ 32768) × (length s ≡ length s₀)
 
 abbrev μ-loop : tie.MeasureT-loop
-μ-loop s₀ bytes busy₀ flickerless₀ i₀ s busy flickerless i = length bytes - i
+μ-loop s₀ bytes busy₀ flickerless₀ worst₀ i₀ s busy flickerless worst i = length bytes - i
 
 loop-holds : tie.Need-loop-holds Inv-loop μ-loop
 loop-holds c =
@@ -27,7 +27,9 @@ one-if-requires : tie.Need-one-if-requires Inv-loop μ-loop
 one-if-requires c κs = search needs
 
 add-flickerless : tie.Need-add-flickerless Inv-loop μ-loop
-add-flickerless c = omega (arith, c .one-if .ensures .1, c .before .before .before .loop .inv .0 .flickerless-1)
+add-flickerless c =
+    let l = c .before .before .before .loop .inv in
+    omega (arith, c .one-if .ensures .1, going-most _ _ _ _ _ _ _ (l .0) (l .1) .1)
 
 shared-slice-read-step : tie.Need-shared-slice-read-step Inv-loop μ-loop
 shared-slice-read-step c = omega arith
@@ -35,15 +37,23 @@ shared-slice-read-step c = omega arith
 step-requires : tie.Need-step-requires Inv-loop μ-loop
 step-requires c κs =
     let g = c .before .before .before .before .before .loop .inv .0 in
-    (g .room, going-place _ _ _ _ _ _ g)
+    (g .room, going-place _ _ _ _ _ _ _ g)
 
 cast-busy : tie.Need-cast-busy Inv-loop μ-loop
 cast-busy c = search needs
 
 add-busy : tie.Need-add-busy Inv-loop μ-loop
 add-busy c =
-    let g = c .before .before .before .before .before .before .before .before .loop .inv .0 in
-    omega (arith, step-most _ _ _ _ (c .before .before .step .ensures), g .busy-65)
+    let l = c .before .before .before .before .before .before .before .before .before .loop .inv in
+    omega (arith, c .struct-known .given, going-most _ _ _ _ _ _ _ (l .0) (l .1) .0)
+
+cast-worst : tie.Need-cast-worst Inv-loop μ-loop
+cast-worst c = search needs
+
+add-worst : tie.Need-add-worst Inv-loop μ-loop
+add-worst c =
+    let l = c .before .before .before .before .before .before .before .before .before .before .loop .inv in
+    omega (arith, c .struct-known2 .given, going-most _ _ _ _ _ _ _ (l .0) (l .1) .2)
 
 add-i : tie.Need-add-i Inv-loop μ-loop
 add-i c = omega arith
@@ -53,12 +63,12 @@ loop-less c = omega arith
 
 loop-again : tie.Need-loop-again Inv-loop μ-loop
 loop-again c =
-    let t = c .before .before .before .before .before .before .before .before in
-    let l = t .loop in
-    let more = c .before .before .before .before .before .before .before .loop-test .taken in
-    let b = c .before .before .before .shared-slice-known2 .given (l .i) in (
-      going-turns _ _ _ _ _ _ (l .inv .0) _ _ _ more (b .fits) (search needs)
-          (c .before .before .step .ensures) (c .before .before .before .before .before .one-if .ensures .0),
+    let w = c .before .before .before .before in
+    let f = w .before .before .before in
+    let l = f .before .before .before .loop in
+    let b = w .before .shared-slice-known2 .given (l .i) in (
+      going-turns _ _ _ _ _ _ _ (l .inv .0) _ _ _ (f .before .before .loop-test .taken) (b .fits) (search needs) (w .step .ensures)
+          (f .one-if .ensures .0),
       l .inv .1,
       search needs,
     )
@@ -67,7 +77,7 @@ same-length : tie.Need-same-length Inv-loop μ-loop
 same-length c = search needs
 
 returns : tie.Need-returns Inv-loop μ-loop
-returns c = going-ends _ _ _ _ _ _ (c .before .loop .inv .0) (c .loop-test .left)
+returns c = going-ends _ _ _ _ _ _ _ (c .before .loop .inv .0) (c .loop-test .left)
 
 pub run-in-spec : {M : Type 1} → statement M
 run-in-spec =
@@ -83,6 +93,8 @@ run-in-spec =
     step-requires
     cast-busy
     add-busy
+    cast-worst
+    add-worst
     add-i
     loop-less
     loop-again
