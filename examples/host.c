@@ -15,10 +15,10 @@ static uint8_t tally[SIGN_TALLY];
 
 static unsigned long number(enum sign_number which) { return sign_tally_number(tally, which); }
 
-/* Here the bytes would go to the wire, once it is free for so long. Answers 0, or -1 where they could not be
-   sent. */
+/* Here the bytes would go to the wire, once it is reserved for so long. Answers 0, or -1 where they could
+   not be sent. */
 static int to_the_wire(const uint8_t *bytes, size_t n, unsigned long us) {
-    printf("sent %zu bytes, %lu us:", n, us);
+    printf("reserved %lu us, sent %zu bytes:", us, n);
     for (size_t i = 0; i < n; i++) printf(" %02X", bytes[i]);
     return printf("\n") < 0 ? -1 : 0;
 }

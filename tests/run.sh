@@ -33,8 +33,8 @@ c_program() { # NAME FILE
     $CC -std=c11 -pedantic -Wall -Wextra -O2 -Iinclude -static -o "$out/$1" "$2" target/staticlib/libsign.a
 }
 
-# fence PAGE NAME: what the page has between ```NAME and ```
-fence() { sed -n "/^\`\`\`$2\$/,/^\`\`\`\$/p" "$1" | sed '1d;$d'; }
+# fence PAGE NAME: what the page has between ```NAME and ```, wherever it has that
+fence() { sed -n "/^\`\`\`$2\$/,/^\`\`\`\$/{ /^\`\`\`/!p; }" "$1"; }
 
 # advised FIRST: the bytes that docs/HOST.md gives in backticks, eight of them, beginning with this one
 advised() { sed -n "s/.*\`\($1\( [0-9A-F][0-9A-F]\)\{7\}\)\`.*/\1/p" docs/HOST.md; }
@@ -101,17 +101,21 @@ example)
     $RUN "$out/example" >"$out/example.txt"
     cat "$out/example.txt"
     diff examples/host.txt "$out/example.txt"
-    # the lines in C that README and docs/HOST.md show
+    # the lines in C that README and docs/HOST.md show; what the latter reserve is run
     fence README.md c >"$out/readme.c"
     {
-        for name in fcntl sys/file termios unistd; do echo "#include <$name.h>"; done
+        for name in fcntl stddef stdint sys/file termios unistd; do echo "#include <$name.h>"; done
         echo 'int open_port(const char *name);'
+        echo 'uint32_t reserve(const uint8_t *block, const uint8_t *bytes, size_t n);'
         fence docs/HOST.md c
-    } >"$out/port.c"
-    for name in readme port; do
+        cat tests/reserve.c
+    } >"$out/page.c"
+    for name in readme page; do
         $CC -std=c11 -pedantic -Wall -Wextra -Werror -D_DEFAULT_SOURCE -Iinclude -c -o "$out/$name.o" "$out/$name.c"
     done
-    grep -q sign_run "$out/readme.c" && grep -q tcsetattr "$out/port.c"
+    grep -q sign_run "$out/readme.c" && grep -q tcsetattr "$out/page.c"
+    $CC -static -o "$out/page" "$out/page.o" target/staticlib/libsign.a
+    $RUN "$out/page"
     ;;
 station)
     c_program station-host examples/station.c

@@ -71,7 +71,7 @@ fonts-bench = ((refl, refl), ((refl, refl), ((refl, refl), tt)))
 
 -- and the cases for the tally
 pub tally-bench : AllCount tallySheet
-unfolding powerUp stepAt isChar isUser foundIn limitOf writeOf rightOf controlOf downOf escapeOf totalOf quickAt writeBusy controlBusy
-    escapeBusy rightScrolls downScrolls lineShifts wellFormed numbersGood scrollGood allUpTo usersGood pendingGood escapeGood absent
-    withinLimit tallied runRefusal runAnswer
+unfolding powerUp stepAt isChar isUser foundIn limitOf writeOf rightOf controlOf downOf escapeOf totalOf quickAt writeBusy
+    controlBusy escapeBusy rightScrolls downScrolls lineShifts wellFormed numbersGood scrollGood allUpTo usersGood pendingGood
+    escapeGood absent withinLimit tallied runRefusal runAnswer
 tally-bench = ((refl, refl), ((refl, refl), ((refl, refl), tt)))

@@ -1,4 +1,4 @@
--- Cases for the tally with its worst total (document 02, W2), worked out by hand: each a run from power-up font 0 with a zero tally.
+-- Cases for the tally with its worst total (document 02, W2), worked out by hand: runs from power-up font 0 with a zero tally.
 use Prim.Native.Nat.{ℕ}
 use mathlib.Core.Path.{_≡_}
 use mathlib.Core.List.{List, [], _∷_}
@@ -24,7 +24,7 @@ abbrev pub tallySheet : List Counted
 tallySheet =
     -- 41 0A 42 0C, flickerless off: the worst total is the busy one
     record { bytes = 0x41 ∷ 0x0A ∷ 0x42 ∷ 0x0C ∷ []; tally = record { bytes = 4; busy = 26; flickerless = 0; worst = 26 } }
-    -- 1B 53 41 0B 1B 49: 200 more each for the write, the ignored byte and the two that turn it off, not for the 53h that turns it on
+    -- 1B 53 41 0B 1B 49: 200 more for the write, the ignored byte and the two that turn it off, not for the 53h that turns it on
     ∷ record {
       bytes = 0x1B ∷ 0x53 ∷ 0x41 ∷ 0x0B ∷ 0x1B ∷ 0x49 ∷ [];
       tally = record { bytes = 6; busy = 71; flickerless = 4; worst = 871 };

@@ -18,8 +18,9 @@ use Rattle.inplace.specs.InPlace.{Carried}
 use Rattle.inplace.specs.Carry.{carryRefusal, untouchedOf, carriedOf, afterOf}
 
 -- a run on the packed condition
-pub carries : (c : Condition) (p after : List ℕ) (k : Condition) (bs : List ℕ) (busy flickerless worst : ℕ) → Sized c → p ≡ packedOf c
-    → k ≡ conditionIn after → Carried (conditionIn p) bs (conditionIn after) busy flickerless worst → Carried c bs k busy flickerless worst
+pub carries : (c : Condition) (p after : List ℕ) (k : Condition) (bs : List ℕ) (busy flickerless worst : ℕ) → Sized c
+    → p ≡ packedOf c → k ≡ conditionIn after → Carried (conditionIn p) bs (conditionIn after) busy flickerless worst
+    → Carried c bs k busy flickerless worst
 carries c p after k bs busy flickerless worst s e f g =
     let h : conditionIn p ≡ c = ap conditionIn e ∙ packed-back c s in
     rw f (rw h at g)
@@ -38,8 +39,8 @@ module _ (c : Condition) (bs : List ℕ) (r : After) where
   unfolding carryRefusal
   too-long w h = untouched 4 (rw (w, lt-ltb 32768 (length bs) h)) (λ z. omega arith)
 
-  pub carried : wellFormed c ≡ true → length bs ≤ 32768 → r .refusal ≡ 0 → Carried c bs (r .condition) (r .busy) (r .flickerless) (r .worst)
-      → r ≡ afterOf c bs
+  pub carried : wellFormed c ≡ true → length bs ≤ 32768 → r .refusal ≡ 0
+      → Carried c bs (r .condition) (r .busy) (r .flickerless) (r .worst) → r ≡ afterOf c bs
   unfolding afterOf carryRefusal
   carried w h z g =
       rw (w, le-ltb 32768 (length bs) h)

@@ -1,5 +1,5 @@
 -- What each way through a run comes to.
-use Prim.Native.Nat.{ℕ, _+_, _≤_, _<_}
+use Prim.Native.Nat.{ℕ, _+_, _*_, _≤_, _<_}
 use mathlib.Core.Path.{_≡_, refl, ap, sym, _∙_}
 use mathlib.Core.Bool.{Bool, true, false, cond, not, _&&_, and-false}
 use mathlib.Core.List.{List, [], _∷_, _++_, flatten}
@@ -15,7 +15,7 @@ use Rattle.condition.specs.Bytes.{runOf}
 use Rattle.condition.specs.Busy.{totalOf, quickFigure, worstFigure, whileOn, busyOf, flickerlessOf, worstOf}
 use Rattle.condition.proofs.Good.{Sized, run-sized}
 use Rattle.condition.proofs.Kept.{run-kept}
-use Rattle.condition.proofs.Pieces.{run-append, total-append, run-most}
+use Rattle.condition.proofs.Pieces.{run-append, total-append, run-most, worst-law}
 use Rattle.interpreter.specs.declared.Tally.{Tally}
 use Rattle.interpreter.specs.declared.Ran.{Ran}
 use Rattle.inplace.specs.InPlace.{Carried}
@@ -124,6 +124,15 @@ module _ (c k : Condition) (bs : List ℕ) (busy flickerless worst : ℕ) (g : C
 
   pub ran : (t : Tally) → _≡_ {A = Ran} (record { refusal = 0; condition = k; tally = added t }) (acceptedOf c t bs)
   ran t = rw (g .leaves, tallies t)
+
+-- Where the worst total is the busy one and 200 more for each flickerless byte, as in the zero tally, it stays so
+abbrev pub Balanced : Tally → Type 0
+Balanced t = t .worst ≡ t .busy + 200 * t .flickerless
+
+pub stays-balanced : (c : Condition) (t : Tally) (bs : List ℕ) → Balanced t → Balanced (runAnswer c t bs .tally)
+unfolding runAnswer tallied
+stays-balanced c t bs e =
+    by-test (λ (r : Ran). Balanced (r .tally)) (eqb (runRefusal c t bs) 0) (λ _. omega (arith, e, worst-law c bs)) (λ _. e)
 
 -- Any two answers that a promise allows are equal --------------------------------------------------------------------------
 

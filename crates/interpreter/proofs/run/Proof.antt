@@ -28,7 +28,8 @@ whole c = sym (refusal-is _ _ _ (c .before .before .carry .ensures)) ∙ c .if2 
 did : (c : tie.Else2)
     → Carried (c .before .before .before .before .before .before .args .c)
     (c .before .before .before .before .before .before .args .bytes .now) (c .before .before .carry .result .condition)
-    (c .before .before .carry .result .busy) (c .before .before .carry .result .flickerless) (c .before .before .carry .result .worst)
+    (c .before .before .carry .result .busy) (c .before .before .carry .result .flickerless)
+    (c .before .before .carry .result .worst)
 did c = taken _ _ _ (c .before .before .carry .ensures) (c .if2 .left)
 
 within-limit-requires : tie.Need-within-limit-requires
