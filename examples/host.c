@@ -13,26 +13,33 @@ enum { BYTE_US = 573 }; /* a byte on the wire at 19,200 baud, with its parity */
 static uint8_t block[SIGN_BLOCK];
 static uint8_t tally[SIGN_TALLY];
 
-static unsigned long number(enum sign_number which) { return sign_tally_number(tally, which); }
+/* Here the wire would be reserved for so many microseconds: others use it too. Answers 0, or -1 where it is not
+   to be had now. */
+static int reserve(unsigned long us) { return printf("reserved %lu us, ", us) < 0 ? -1 : 0; }
 
-/* Here the bytes would go to the wire, once it is reserved for so long. Answers 0, or -1 where they could
-   not be sent. */
-static int to_the_wire(const uint8_t *bytes, size_t n, unsigned long us) {
-    printf("reserved %lu us, sent %zu bytes:", us, n);
+/* Here the bytes would go to the wire. Answers 0, or -1 where they could not be sent. */
+static int to_the_wire(const uint8_t *bytes, size_t n) {
+    printf("sent %zu bytes:", n);
     for (size_t i = 0; i < n; i++) printf(" %02X", bytes[i]);
     return printf("\n") < 0 ? -1 : 0;
 }
 
-/* Runs bytes on our copy and sends them, in this order: bytes that the copy refuses must not reach the
-   module, which would carry them out. Others use the wire too, so it is reserved for as long as the bytes
-   take on it and the module may be busy with them, flickerless or not: that is what the run adds to the worst
-   number. Answers NULL, or what went wrong. */
+static unsigned long worst(const uint8_t *t) { return sign_tally_number(t, SIGN_NUMBER_WORST); }
+
+/* Runs bytes on copies and sends them, in this order: bytes that are refused must not reach the module, which
+   would carry them out. In between the wire is reserved: for the bytes' own time there, and for what the run
+   adds to the worst number, which is how long the module may be busy with them, flickerless or not. Answers
+   NULL, or what went wrong. */
 static const char *run_and_send(const uint8_t *bytes, size_t n) {
-    unsigned long before = number(SIGN_NUMBER_WORST);
-    uint32_t refusal = sign_run(block, sizeof block, tally, sizeof tally, bytes, n);
+    uint8_t next_block[SIGN_BLOCK], next_tally[SIGN_TALLY];
+    memcpy(next_block, block, sizeof block);
+    memcpy(next_tally, tally, sizeof tally);
+    uint32_t refusal = sign_run(next_block, sizeof next_block, next_tally, sizeof next_tally, bytes, n);
     if (refusal != SIGN_ACCEPTED) return sign_refusal_text(refusal);
-    unsigned long us = BYTE_US * (unsigned long)n + (number(SIGN_NUMBER_WORST) - before);
-    if (to_the_wire(bytes, n, us) != 0) return "the wire failed: the glass is in doubt (docs/HOST.md, Recovery)";
+    if (reserve(BYTE_US * (unsigned long)n + worst(next_tally) - worst(tally)) != 0) return "the wire is not free";
+    if (to_the_wire(bytes, n) != 0) return "the wire failed: the glass is in doubt (docs/HOST.md, Recovery)";
+    memcpy(block, next_block, sizeof block);
+    memcpy(tally, next_tally, sizeof tally);
     return NULL;
 }
 
@@ -102,7 +109,8 @@ int main(void) {
     if (failed(put("Welcome aboard", "Gate 5 \x01\x01\x01", 0))) return 1;
     print_sign();
 
-    printf("bytes %lu, busy %lu us, at the worst %lu us\n", number(SIGN_NUMBER_BYTES),
-           number(SIGN_NUMBER_BUSY), number(SIGN_NUMBER_WORST));
+    printf("bytes %lu, busy %lu us, at the worst %lu us\n",
+           (unsigned long)sign_tally_number(tally, SIGN_NUMBER_BYTES),
+           (unsigned long)sign_tally_number(tally, SIGN_NUMBER_BUSY), worst(tally));
     return 0;
 }

@@ -35,7 +35,7 @@
 
 enum { TTY_ROOM = 256, BOOT_ROOM = 40, PATH_ROOM = 4096, MOST_PICTURES = 1000, LOOK_MS = 100 };
 enum { IN_DOUBT = 'D', CERTAIN = 'C' };
-enum { MOST_US = 265 }; /* the longest that the module is busy with any byte, flickerless or not */
+enum { MOST_US = 265 }; /* the longest that the module is busy with a byte, flickerless or not */
 
 /* What is kept of a sign, as it stands in STATE: bytes only, so there are no gaps. */
 struct state {
@@ -78,10 +78,8 @@ static uint32_t run(struct state *s, const uint8_t *bytes, size_t n) {
     return sign_run(s->block, SIGN_BLOCK, s->tally, SIGN_TALLY, bytes, n);
 }
 
-/* How long the module is busy at the worst with all that was run: what another run adds to it is the
-   time to leave behind its bytes. */
-static unsigned long worst(const struct state *s) {
-    return sign_tally_number(s->tally, SIGN_NUMBER_WORST);
+static unsigned long counted(const struct state *s, enum sign_number which) {
+    return sign_tally_number(s->tally, which);
 }
 
 static void wait_us(unsigned long us) {
@@ -171,14 +169,15 @@ static void open_wire(void) {
 }
 
 /* Runs bytes on a copy of what we keep, one at a time, and notes how long the module may need for
-   each. In doubt the block does not know: it gets the most. Answers 0 or the refusal. */
+   each, flickerless or not: what the worst number grows by. In doubt the block does not know how the
+   module is: it gets the most. Answers 0 or the refusal. */
 static uint32_t run_on(struct state *copy, const uint8_t *bytes, size_t n, unsigned long *pause) {
     *copy = sign;
     for (size_t i = 0; i < n; i++) {
-        unsigned long before = worst(copy);
+        unsigned long before = counted(copy, SIGN_NUMBER_WORST);
         uint32_t refusal = run(copy, bytes + i, 1);
         if (refusal != SIGN_ACCEPTED) return refusal;
-        pause[i] = doubt ? MOST_US : worst(copy) - before;
+        pause[i] = doubt ? MOST_US : counted(copy, SIGN_NUMBER_WORST) - before;
     }
     return SIGN_ACCEPTED;
 }
@@ -192,8 +191,9 @@ static void to_the_wire(const uint8_t *bytes, size_t n) {
     if (n > SIGN_ROOM) END("more bytes than a plan has");
     uint32_t refusal = run_on(&copy, bytes, n, pause);
     if (refusal == SIGN_TALLY_FULL) {
-        SAY("the tally starts again at 0; it was: bytes %lu, busy %lu us at the worst",
-            (unsigned long)sign_tally_number(sign.tally, SIGN_NUMBER_BYTES), worst(&sign));
+        SAY("the tally starts again at 0; it was: bytes %lu busy %lu flickerless %lu worst %lu",
+            counted(&sign, SIGN_NUMBER_BYTES), counted(&sign, SIGN_NUMBER_BUSY),
+            counted(&sign, SIGN_NUMBER_FLICKERLESS), counted(&sign, SIGN_NUMBER_WORST));
         memset(sign.tally, 0, SIGN_TALLY);
         refusal = run_on(&copy, bytes, n, pause);
     }

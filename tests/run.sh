@@ -101,14 +101,15 @@ example)
     $RUN "$out/example" >"$out/example.txt"
     cat "$out/example.txt"
     diff examples/host.txt "$out/example.txt"
-    # the lines in C that README and docs/HOST.md show; what the latter reserve is run
+    # the lines in C that README and docs/HOST.md show; those of the latter that count are run
     fence README.md c >"$out/readme.c"
     {
         for name in fcntl stddef stdint sys/file termios unistd; do echo "#include <$name.h>"; done
         echo 'int open_port(const char *name);'
-        echo 'uint32_t reserve(const uint8_t *block, const uint8_t *bytes, size_t n);'
+        echo 'uint32_t reserve(const uint8_t *block, const uint8_t *bytes, size_t n, uint32_t byte_us);'
+        echo 'void widen(uint8_t *tally);'
         fence docs/HOST.md c
-        cat tests/reserve.c
+        cat tests/page.c
     } >"$out/page.c"
     for name in readme page; do
         $CC -std=c11 -pedantic -Wall -Wextra -Werror -D_DEFAULT_SOURCE -Iinclude -c -o "$out/$name.o" "$out/$name.c"

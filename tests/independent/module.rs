@@ -130,6 +130,7 @@ impl Condition {
 
     /// Takes one byte and answers how long the module is busy with it: up to 200 longer where flickerless
     /// was already on.
+    #[inline]
     pub fn take(&mut self, b: u8) -> Busy {
         let longer = if self.flickerless { 200 } else { 0 };
         let quick = self.carry_out(b);

@@ -21,7 +21,7 @@ use Rattle.interpreter.specs.declared.Ran.{Ran}
 use Rattle.inplace.specs.InPlace.{Carried}
 use Rattle.inplace.specs.Carry.{carryRefusal}
 use Rattle.inplace.proofs.Carrying.{accepts}
-use Rattle.interpreter.specs.Run.{limit, withinLimit, tallied, runRefusal, refusedOf, acceptedOf, runAnswer, inTurn}
+use Rattle.interpreter.specs.Run.{limit, withinLimit, zeroTally, tallied, runRefusal, refusedOf, acceptedOf, runAnswer, inTurn}
 use Rattle.interpreter.specs.Run.{RunPromise, LentPromise}
 
 -- each number of a tally within its limit
@@ -125,14 +125,26 @@ module _ (c k : Condition) (bs : List ℕ) (busy flickerless worst : ℕ) (g : C
   pub ran : (t : Tally) → _≡_ {A = Ran} (record { refusal = 0; condition = k; tally = added t }) (acceptedOf c t bs)
   ran t = rw (g .leaves, tallies t)
 
--- Where the worst total is the busy one and 200 more for each flickerless byte, as in the zero tally, it stays so
+-- After any runs from the zero tally, the worst total is the busy one and 200 more for each flickerless byte --------------------
+
 abbrev pub Balanced : Tally → Type 0
 Balanced t = t .worst ≡ t .busy + 200 * t .flickerless
 
-pub stays-balanced : (c : Condition) (t : Tally) (bs : List ℕ) → Balanced t → Balanced (runAnswer c t bs .tally)
+balanced : (c : Condition) (t : Tally) (bs : List ℕ) → Balanced t → Balanced (runAnswer c t bs .tally)
 unfolding runAnswer tallied
-stays-balanced c t bs e =
+balanced c t bs e =
     by-test (λ (r : Ran). Balanced (r .tally)) (eqb (runRefusal c t bs) 0) (λ _. omega (arith, e, worst-law c bs)) (λ _. e)
+
+stays : (c : Condition) (t : Tally) (pieces : List (List ℕ)) → Balanced t → Balanced (inTurn c t pieces .tally)
+unfolding inTurn
+stays c t [] e = e
+stays c t (bs ∷ pieces) e =
+    let r = runAnswer c t bs in
+    let b = balanced c t bs e in
+    by-test (λ (r : Ran). Balanced (r .tally)) (eqb (r .refusal) 0) (λ _. stays (r .condition) (r .tally) pieces b) (λ _. b)
+
+pub began-at-zero : (c : Condition) (pieces : List (List ℕ)) → Balanced (inTurn c zeroTally pieces .tally)
+began-at-zero c pieces = stays c zeroTally pieces refl
 
 -- Any two answers that a promise allows are equal --------------------------------------------------------------------------
 
