@@ -223,6 +223,12 @@ static void refusals(void) {
     check("run at the limit", run(want, 0) == 0);
     check("run 5", run(want, 1) == SIGN_TALLY_FULL);
     memset(tally, 0, sizeof tally);
+    memcpy(tally + 12, "\xF9\x27\x6B\xEE", 4); /* 3,999,999,993 at the worst: a character more takes 7 */
+    check("worst: run at the limit", run(want, 1) == 0 && number(SIGN_NUMBER_WORST) == 4000000000u);
+    check("worst: run 5", run(want, 1) == SIGN_TALLY_FULL);
+    tally[12] = 1;
+    check("worst: run 3", run(want, 0) == SIGN_OUT_OF_RANGE);
+    after(want, 0);
     block[100] ^= 1;
     check("run 2", run(want, 1) == SIGN_DAMAGED && plan(0) == SIGN_REFUSED + SIGN_DAMAGED);
     block[100] ^= 1;
@@ -278,6 +284,13 @@ static void places(void) {
         && block[SIGN_HELD_COUNT_AT] == 3 && memcmp(block + SIGN_HELD_AT, "\xA1\xA2\xA3", 4) == 0);
     check("default font", sign_power_up(1, block, sizeof block) == SIGN_ACCEPTED && block[SIGN_DEFAULT_FONT_AT] == 1);
     check("then 18h", run((const uint8_t[]){0x18}, 1) == SIGN_ACCEPTED && block[SIGN_DEFAULT_FONT_AT] == 1 && block[SIGN_FONT_AT] == 0);
+}
+
+/* Worst busy time: 200 more for each byte that came while flickerless was on. */
+static void worst(void) {
+    AFTER(0x1B, 0x53, 0x41, 0x0B, 0x1B, 0x49);
+    check("worst", number(SIGN_NUMBER_BYTES) == 6 && busy() == 71 && number(SIGN_NUMBER_FLICKERLESS) == 4
+        && number(SIGN_NUMBER_WORST) == 871);
 }
 
 static void questions(void) {
@@ -394,6 +407,7 @@ int main(int argc, char **argv) {
     refusals();
     unread();
     places();
+    worst();
     questions();
     half_received();
     advice();

@@ -285,8 +285,9 @@ impl Bench {
     /// The state does not fit, and the module is in any condition. (Damage to the tally alone is left
     /// out: the block is right then, and it is taken.)
     fn states(&mut self) {
-        let faults = "missing, empty, short, long, with a tally of 12 bytes, marked, damaged, random, of other settings, of another J6, \
-                      of another TTY, of a TTY with a longer path, of another boot, of no boot";
+        let faults = "missing, empty, short, long, with a tally of 12 bytes, marked, damaged, random, \
+                      of other settings, of another J6, of another TTY, of a TTY with a longer path, \
+                      of another boot, of no boot";
         for fault in std::iter::repeat(faults).take(4).flat_map(|f| f.split(", ")) {
             let mut state = self.saved();
             let path_end = TTY_AT + self.wire.tty.len();

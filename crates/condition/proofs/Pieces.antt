@@ -104,11 +104,11 @@ run-most c bs = (
 
 -- The worst busy time is the quick one, and 200 more for each byte that came while flickerless was on
 
-slower : (q : ℕ) (on : Bool) → cond on (q + 200) q ≡ q + 200 * flag on
-slower q true = refl
-slower q false = omega arith
+longer : (q : ℕ) (on : Bool) → cond on (q + 200) q ≡ q + 200 * flag on
+longer q true = refl
+longer q false = omega arith
 
 pub worst-law : (c : Condition) (bs : List ℕ) → worstOf c bs ≡ busyOf c bs + 200 * flickerlessOf c bs
 unfolding totalOf
 worst-law c [] = refl
-worst-law c (b ∷ bs) = omega (arith, slower (quickFigure c b) (c .flickerless), worst-law (stepOf c b) bs)
+worst-law c (b ∷ bs) = omega (arith, longer (quickFigure c b) (c .flickerless), worst-law (stepOf c b) bs)

@@ -78,7 +78,7 @@ pub data-step : (s : List ℕ) (b : ℕ) → pendingOf (getD s 13 0) (getD s 14 
 unfolding stepAt
 data-step s b e = half-step s b _ e
 
--- A byte carried out, by its quick figure q and the flag x that stood there before it
+-- A byte carried out, by its quick figure q and by the flag in byte 12, as it stood before
 module _ (s : List ℕ) (b : ℕ) (k : Condition) (q : ℕ) (r : Figures) (e : r ≡ figuresBy q (eqb (getD s 12 0) 1)) where
   pub quick-step : k ≡ stepOf (conditionIn s) b → q ≡ quickFigure (conditionIn s) b → Stepped (conditionIn s) b k r
   quick-step p t = record { leaves = p; takes = e ∙ rw (t, flickerless-at s) }

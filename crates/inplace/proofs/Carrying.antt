@@ -14,14 +14,14 @@ use Rattle.condition.proofs.Good.{Sized}
 use Rattle.layout.specs.Layout.{packedOf, conditionIn}
 use Rattle.layout.proofs.PackedBack.{packed-back}
 use Rattle.inplace.specs.declared.After.{After}
+use Rattle.inplace.specs.declared.Spent.{Spent}
 use Rattle.inplace.specs.InPlace.{Carried}
 use Rattle.inplace.specs.Carry.{carryRefusal, untouchedOf, carriedOf, afterOf}
 
 -- a run on the packed condition
-pub carries : (c : Condition) (p after : List ℕ) (k : Condition) (bs : List ℕ) (busy flickerless worst : ℕ) → Sized c
-    → p ≡ packedOf c → k ≡ conditionIn after → Carried (conditionIn p) bs (conditionIn after) busy flickerless worst
-    → Carried c bs k busy flickerless worst
-carries c p after k bs busy flickerless worst s e f g =
+pub carries : (c : Condition) (p after : List ℕ) (k : Condition) (bs : List ℕ) (spent : Spent) → Sized c → p ≡ packedOf c
+    → k ≡ conditionIn after → Carried (conditionIn p) bs (conditionIn after) spent → Carried c bs k spent
+carries c p after k bs spent s e f g =
     let h : conditionIn p ≡ c = ap conditionIn e ∙ packed-back c s in
     rw f (rw h at g)
 
@@ -40,12 +40,11 @@ module _ (c : Condition) (bs : List ℕ) (r : After) where
   too-long w h = untouched 4 (rw (w, lt-ltb 32768 (length bs) h)) (λ z. omega arith)
 
   pub carried : wellFormed c ≡ true → length bs ≤ 32768 → r .refusal ≡ 0
-      → Carried c bs (r .condition) (r .busy) (r .flickerless) (r .worst) → r ≡ afterOf c bs
+      → Carried c bs (r .condition) (r .spent) → r ≡ afterOf c bs
   unfolding afterOf carryRefusal
   carried w h z g =
       rw (w, le-ltb 32768 (length bs) h)
-      (λ i.
-      record { refusal = z i; condition = g .leaves i; busy = g .takes i; flickerless = g .flickers i; worst = g .slowest i })
+      (λ i. record { refusal = z i; condition = g .leaves i; spent = g .spends i })
 
   -- and what a caller learns from it
   pub refusal-is : r ≡ afterOf c bs → r .refusal ≡ carryRefusal c bs
@@ -54,16 +53,11 @@ module _ (c : Condition) (bs : List ℕ) (r : After) where
       ap (λ (a : After). a .refusal) e
       ∙ number-by (λ (a : After). a .refusal) (carryRefusal c bs) refl refl
 
-  pub taken : r ≡ afterOf c bs → r .refusal ≡ 0 → Carried c bs (r .condition) (r .busy) (r .flickerless) (r .worst)
+  pub taken : r ≡ afterOf c bs → r .refusal ≡ 0 → Carried c bs (r .condition) (r .spent)
   unfolding afterOf
   taken e z =
       let f : r ≡ carriedOf c bs = e ∙ rw (eq-eqb (carryRefusal c bs) 0 (sym (refusal-is e) ∙ z)) in
-      record {
-        leaves = ap (λ (a : After). a .condition) f;
-        takes = ap (λ (a : After). a .busy) f;
-        flickers = ap (λ (a : After). a .flickerless) f;
-        slowest = ap (λ (a : After). a .worst) f;
-      }
+      record { leaves = ap (λ (a : After). a .condition) f; spends = ap (λ (a : After). a .spent) f }
 
 -- what is carried out is well formed and not too long
 pub accepts : (c : Condition) (bs : List ℕ) → carryRefusal c bs ≡ 0 → (wellFormed c ≡ true) × (length bs ≤ 32768)

@@ -16,8 +16,16 @@ use Rattle.condition.proofs.Kept.{step-kept}
 use Rattle.condition.proofs.Pieces.{run-turn, total-turn, run-ended, total-ended, run-most}
 use Rattle.layout.specs.Layout.{conditionIn}
 use Rattle.layout.proofs.PackedBack.{sized-in}
-use Rattle.inplace.specs.InPlace.{Stepped, Carried}
+use Rattle.inplace.specs.declared.Spent.{Spent}
+use Rattle.inplace.specs.InPlace.{Stepped, Carried, spentOf}
 use Rattle.inplace.proofs.InPlace.{cursor-at, flickerless-at}
+
+-- what at most 32,768 bytes spend is small
+abbrev pub Small : Spent → Type 0
+Small s = (s .busy ≤ 2129920) × (s .flickerless ≤ 32768) × (s .worst ≤ 8683520)
+
+pub small : (c : Condition) (bs : List ℕ) → length bs ≤ 32768 → Small (spentOf c bs)
+small c bs h = let m = run-most c bs in (omega (arith, m .0), omega (arith, m .1), omega (arith, m .2))
 
 -- after i bytes of bs, from the condition c: what stands in s, and what is spent
 pub record Going (c : Condition) (bs : List ℕ) (s : List ℕ) (busy flickerless worst i : ℕ) : Type 0 where
@@ -27,7 +35,7 @@ pub record Going (c : Condition) (bs : List ℕ) (s : List ℕ) (busy flickerles
   pub leaves : runOf (conditionIn s) (drop i bs) ≡ runOf c bs
   pub takes : busy + busyOf (conditionIn s) (drop i bs) ≡ busyOf c bs
   pub flickers : flickerless + flickerlessOf (conditionIn s) (drop i bs) ≡ flickerlessOf c bs
-  pub slowest : worst + worstOf (conditionIn s) (drop i bs) ≡ worstOf c bs
+  pub lasts : worst + worstOf (conditionIn s) (drop i bs) ≡ worstOf c bs
 
 pub going-starts : (s bs : List ℕ) → 200 ≤ length s → wellFormed (conditionIn s) ≡ true → Going (conditionIn s) bs s 0 0 0 0
 going-starts s bs h w =
@@ -38,7 +46,7 @@ going-starts s bs h w =
       leaves = refl;
       takes = omega arith;
       flickers = omega arith;
-      slowest = omega arith;
+      lasts = omega arith;
     }
 
 module _ (c : Condition) (bs s : List ℕ) (busy flickerless worst i : ℕ) (g : Going c bs s busy flickerless worst i) where
@@ -46,10 +54,10 @@ module _ (c : Condition) (bs s : List ℕ) (busy flickerless worst i : ℕ) (g :
   going-place = rw cursor-at at (good (conditionIn s) (g .formed) .cursor-40)
 
   -- what is spent so far is no more than all bytes take
-  pub going-most : length bs ≤ 32768 → (busy ≤ 2129920) × (flickerless ≤ 32768) × (worst ≤ 8683520)
+  pub going-most : length bs ≤ 32768 → Small (record { busy = busy; flickerless = flickerless; worst = worst })
   going-most h =
-      let m = run-most c bs in
-      (omega (arith, g .takes, m .0), omega (arith, g .flickers, m .1), omega (arith, g .slowest, m .2))
+      let m = small c bs h in
+      (omega (arith, g .takes, m .0), omega (arith, g .flickers, m .1), omega (arith, g .lasts, m .2))
 
   pub going-turns : (after : List ℕ) (r : Figures) (f : ℕ) → i < length bs → getD bs i 0 < 256 → length after ≡ length s
       → Stepped (conditionIn s) (getD bs i 0) (conditionIn after) r → f ≡ flag (eqb (getD s 12 0) 1)
@@ -63,15 +71,14 @@ module _ (c : Condition) (bs s : List ℕ) (busy flickerless worst i : ℕ) (g :
         leaves = rw (st .leaves) (run-turn k bs i h ∙ g .leaves);
         takes = rw (st .leaves, st .takes) (omega (arith, total-turn k bs i h quickFigure, g .takes));
         flickers = rw (st .leaves, e, ← flickerless-at s) (omega (arith, total-turn k bs i h whileOn, g .flickers));
-        slowest = rw (st .leaves, st .takes) (omega (arith, total-turn k bs i h worstFigure, g .slowest));
+        lasts = rw (st .leaves, st .takes) (omega (arith, total-turn k bs i h worstFigure, g .lasts));
       }
 
-  pub going-ends : length bs ≤ i → Carried c bs (conditionIn s) busy flickerless worst
+  pub going-ends : length bs ≤ i
+      → Carried c bs (conditionIn s) (record { busy = busy; flickerless = flickerless; worst = worst })
   going-ends h =
       let k = conditionIn s in
-      record {
-        leaves = sym (run-ended k bs i h) ∙ g .leaves;
-        takes = omega (arith, total-ended k bs i h quickFigure, g .takes);
-        flickers = omega (arith, total-ended k bs i h whileOn, g .flickers);
-        slowest = omega (arith, total-ended k bs i h worstFigure, g .slowest);
-      }
+      let b : busy ≡ busyOf c bs = omega (arith, total-ended k bs i h quickFigure, g .takes) in
+      let f : flickerless ≡ flickerlessOf c bs = omega (arith, total-ended k bs i h whileOn, g .flickers) in
+      let w : worst ≡ worstOf c bs = omega (arith, total-ended k bs i h worstFigure, g .lasts) in
+      record { leaves = sym (run-ended k bs i h) ∙ g .leaves; spends = λ j. record { busy = b j; flickerless = f j; worst = w j } }

@@ -7,6 +7,7 @@ use Rattle.row.specs.Row.{lineStart, shifted}
 use Rattle.users.specs.Users.{defineOf, usersIn}
 use Rattle.condition.specs.declared.Condition.{Condition}
 use Rattle.condition.specs.declared.Figures.{Figures}
+use Rattle.inplace.specs.declared.Spent.{Spent}
 use Rattle.condition.specs.Condition.{powerUp}
 use Rattle.condition.specs.Set.{withCells, withUsers, withHeld}
 use Rattle.condition.specs.Bytes.{stepOf, runOf}
@@ -44,10 +45,11 @@ pub record Stepped (c : Condition) (b : ℕ) (after : Condition) (figures : Figu
   pub leaves : after ≡ stepOf c b
   pub takes : figures ≡ figuresOf c b
 
--- bytes carried out in turn: the condition after them, their busy time, how many came while flickerless was on, and their worst
--- busy time
-pub record Carried (c : Condition) (bs : List ℕ) (after : Condition) (busy flickerless worst : ℕ) : Type 0 where
+-- what bytes spend: their busy time, how many come while flickerless is on, and their worst busy time
+abbrev pub spentOf : Condition → List ℕ → Spent
+spentOf c bs = record { busy = busyOf c bs; flickerless = flickerlessOf c bs; worst = worstOf c bs }
+
+-- bytes carried out in turn: the condition after them, and what they spend
+pub record Carried (c : Condition) (bs : List ℕ) (after : Condition) (spent : Spent) : Type 0 where
   pub leaves : after ≡ runOf c bs
-  pub takes : busy ≡ busyOf c bs
-  pub flickers : flickerless ≡ flickerlessOf c bs
-  pub slowest : worst ≡ worstOf c bs
+  pub spends : spent ≡ spentOf c bs

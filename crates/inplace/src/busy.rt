@@ -104,8 +104,8 @@ pub(crate) fn continued_busy(s: &[u8], b: u8) -> u8
     }
 }
 
-// What flickerless mode may add to a byte's figure.
-const SLOWER: u16 = 200;
+// How much longer a byte may take in flickerless mode.
+const LONGER: u16 = 200;
 
 // The figures of a byte, by its quick one and whether flickerless was on before it.
 pub(crate) fn figures(quick: u8, on: u8) -> Figures
@@ -114,7 +114,7 @@ pub(crate) fn figures(quick: u8, on: u8) -> Figures
     if on == 1 {
         return Figures {
             quick: quick,
-            worst: quick as u16 + SLOWER,
+            worst: quick as u16 + LONGER,
         };
     }
     Figures {

@@ -15,14 +15,18 @@ mod run;
 // The most bytes that are taken.
 const MOST_BYTES: usize = 32768;
 
-// What carrying bytes out answers: a refusal number, 0 when accepted, the condition after them, their busy time, how many came
-// while flickerless was on, and their worst busy time.
-pub struct After {
-    pub refusal: u8,
-    pub condition: Condition,
+// What bytes add to the tally beside their number: their busy time, how many come while flickerless is on, their worst busy time.
+pub struct Spent {
     pub busy: u32,
     pub flickerless: u32,
     pub worst: u32,
+}
+
+// What carrying bytes out answers: a refusal number, 0 when accepted, the condition after them, and what they spend.
+pub struct After {
+    pub refusal: u8,
+    pub condition: Condition,
+    pub spent: Spent,
 }
 
 fn untouched(refusal: u8, c: Condition) -> After
@@ -31,9 +35,11 @@ fn untouched(refusal: u8, c: Condition) -> After
     After {
         refusal: refusal,
         condition: c,
-        busy: 0,
-        flickerless: 0,
-        worst: 0,
+        spent: Spent {
+            busy: 0,
+            flickerless: 0,
+            worst: 0,
+        },
     }
 }
 
@@ -53,8 +59,6 @@ pub fn carry(c: Condition, bytes: &[u8]) -> After
     After {
         refusal: 0,
         condition: after,
-        busy: spent.busy,
-        flickerless: spent.flickerless,
-        worst: spent.worst,
+        spent: spent,
     }
 }

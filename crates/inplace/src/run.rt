@@ -9,6 +9,7 @@ ghost use Rattle.condition.specs.Bytes.{writeOf};
 ghost use Rattle.condition.specs.Busy.{writeBusy};
 ghost use Rattle.layout.specs.Layout.{conditionIn};
 ghost use Rattle.inplace.specs.InPlace.{Stepped, Carried};
+use crate::Spent;
 use crate::busy::continued_busy;
 use crate::busy::control_busy;
 use crate::busy::figures;
@@ -62,18 +63,11 @@ fn one_if(on: u8) -> u32
     if on == 1 { 1 } else { 0 }
 }
 
-// What a run adds to the tally beside its length.
-pub(crate) struct Spent {
-    pub(crate) busy: u32,
-    pub(crate) flickerless: u32,
-    pub(crate) worst: u32,
-}
-
 // What bytes do, in turn.
 pub(crate) fn run_in(s: &mut [u8], bytes: &[u8]) -> Spent
     requires { ⌜ (200 ≤ length (now s)) × (wellFormed (conditionIn (now s)) ≡ true) × (length (now bytes) ≤ 32768) ⌝ }
     ensures { λ r. ⌜ Carried (conditionIn (now (s .entry))) (now (bytes .entry))
-        (conditionIn (now (s .exit))) (r .busy) (r .flickerless) (r .worst) ⌝ }
+        (conditionIn (now (s .exit))) r ⌝ }
 {
     let mut busy: u32 = 0;
     let mut flickerless: u32 = 0;
@@ -81,9 +75,9 @@ pub(crate) fn run_in(s: &mut [u8], bytes: &[u8]) -> Spent
     let mut i: usize = 0;
     while i < bytes.len() {
         flickerless += one_if(s[FLICKERLESS]);
-        let figures = step(s, bytes[i]);
-        busy += figures.quick as u32;
-        worst += figures.worst as u32;
+        let took = step(s, bytes[i]);
+        busy += took.quick as u32;
+        worst += took.worst as u32;
         i += 1;
     }
     Spent {

@@ -15,21 +15,23 @@ use Rattle.condition.specs.Bytes.{runOf}
 use Rattle.condition.specs.Busy.{totalOf, quickFigure, worstFigure, whileOn, busyOf, flickerlessOf, worstOf}
 use Rattle.condition.proofs.Good.{Sized, run-sized}
 use Rattle.condition.proofs.Kept.{run-kept}
-use Rattle.condition.proofs.Pieces.{run-append, total-append, run-most, worst-law}
+use Rattle.condition.proofs.Pieces.{run-append, total-append, worst-law}
 use Rattle.interpreter.specs.declared.Tally.{Tally}
 use Rattle.interpreter.specs.declared.Ran.{Ran}
+use Rattle.inplace.specs.declared.Spent.{Spent}
 use Rattle.inplace.specs.InPlace.{Carried}
 use Rattle.inplace.specs.Carry.{carryRefusal}
+use Rattle.inplace.proofs.Running.{Small, small}
 use Rattle.inplace.proofs.Carrying.{accepts}
-use Rattle.interpreter.specs.Run.{limit, withinLimit, zeroTally, tallied, runRefusal, refusedOf, acceptedOf, runAnswer, inTurn}
-use Rattle.interpreter.specs.Run.{RunPromise, LentPromise}
+use Rattle.interpreter.specs.Run.{limit, withinLimit, zeroTally, tallied, runRefusal, refusedOf, acceptedOf, runAnswer}
+use Rattle.interpreter.specs.Run.{inTurn, RunPromise, LentPromise}
 
 -- each number of a tally within its limit
 pub record Within (t : Tally) : Type 0 where
-  pub bytes : t .bytes ≤ 4000000000
-  pub busy : t .busy ≤ 4000000000
-  pub flickerless : t .flickerless ≤ 4000000000
-  pub worst : t .worst ≤ 4000000000
+  pub bytes : t .bytes ≤ limit
+  pub busy : t .busy ≤ limit
+  pub flickerless : t .flickerless ≤ limit
+  pub worst : t .worst ≤ limit
 
 pub within : (t : Tally) → withinLimit t ≡ true → Within t
 unfolding withinLimit
@@ -101,26 +103,24 @@ module _ (c : Condition) (t : Tally) (bs : List ℕ) (r : Ran) where
             kept = λ z. ap (λ (r : Ran). wellFormed (r .condition)) e ∙ run-kept c bs s b (accepts c bs k .0);
           }
 
-module _ (c k : Condition) (bs : List ℕ) (busy flickerless worst : ℕ) (g : Carried c bs k busy flickerless worst) where
+module _ (c k : Condition) (bs : List ℕ) (spent : Spent) (g : Carried c bs k spent) where
   -- what a run adds is small
-  pub adds : length bs ≤ 32768 → (busy ≤ 2129920) × (flickerless ≤ 32768) × (worst ≤ 8683520)
-  adds h =
-      let m = run-most c bs in
-      (omega (arith, g .takes, m .0), omega (arith, g .flickers, m .1), omega (arith, g .slowest, m .2))
+  pub adds : length bs ≤ 32768 → Small spent
+  adds h = rw (g .spends) (small c bs h)
 
   -- the tally, brought up to date
   abbrev added : Tally → Tally
   added t =
       record {
         bytes = t .bytes + length bs;
-        busy = t .busy + busy;
-        flickerless = t .flickerless + flickerless;
-        worst = t .worst + worst;
+        busy = t .busy + spent .busy;
+        flickerless = t .flickerless + spent .flickerless;
+        worst = t .worst + spent .worst;
       }
 
   pub tallies : (t : Tally) → added t ≡ tallied t c bs
   unfolding tallied
-  tallies t = rw (g .takes, g .flickers, g .slowest)
+  tallies t = rw (g .spends)
 
   pub ran : (t : Tally) → _≡_ {A = Ran} (record { refusal = 0; condition = k; tally = added t }) (acceptedOf c t bs)
   ran t = rw (g .leaves, tallies t)

@@ -66,11 +66,12 @@ pub fn run(c: Condition, t: Tally, bytes: &[u8]) -> Ran
         return refused(after.refusal, c, t);
     }
     let condition = after.condition;
+    let spent = after.spent;
     let next = Tally {
         bytes: t.bytes + bytes.len() as u32,
-        busy: t.busy + after.busy,
-        flickerless: t.flickerless + after.flickerless,
-        worst: t.worst + after.worst,
+        busy: t.busy + spent.busy,
+        flickerless: t.flickerless + spent.flickerless,
+        worst: t.worst + spent.worst,
     };
     if !within_limit(next) {
         return refused(5, c, t);

@@ -2,7 +2,7 @@
 use mathlib.Core.Path.{_≡_, sym, ap, _∙_, subst}
 use mathlib.Core.Bool.{Bool, true, false}
 use mathlib.Core.List.{List}
-use Prim.Native.Nat.{ℕ, _+_, _<_}
+use Prim.Native.Nat.{ℕ, _+_, _*_, _/_, _%_, _<_, _≤_}
 use native.Mathlib.Omega.{arith}
 use lib.Dec.{eqb, leb}
 use lib.ListN.{length, take}
@@ -26,8 +26,8 @@ use Rattle.block.proofs.Damaged.{whole-length}
 use Rattle.block.proofs.RoundTrip.{refusal-of, reread}
 use Rattle.interpreter.specs.declared.Tally.{Tally}
 use Rattle.interpreter.specs.declared.Ran.{Ran}
-use Rattle.interpreter.specs.Run.{RunPromise, runAnswer}
-use Rattle.interpreter.proofs.Answers.{run-unformed, ran-sized}
+use Rattle.interpreter.specs.Run.{limit, RunPromise, runAnswer}
+use Rattle.interpreter.proofs.Answers.{Within, run-unformed, ran-sized}
 use Rattle.planner.specs.declared.Planned.{Planned}
 use Rattle.planner.specs.Answer.{bytesBy, Promise, Plans, PlansFonts}
 use Rattle.host.specs.declared.Base.the-variants.{Plan}
@@ -35,6 +35,26 @@ use Rattle.host.specs.Host.{openedOf, hostRefusalBy, hostAnswer}
 use Rattle.host.proofs.Once.{damaged-by, whole, in-block, left-to}
 use Rattle.sign.specs.Calls.{tallyAt, tallyBytes, ranOf, hostRunRefusal, blockAfter, tallyAfter}
 use Rattle.sign.specs.Calls.{HostRun, HostPromise, hostPowerUpRefusal, hostPowerUpOut, HostPowerUp}
+
+-- ---- the tally
+
+four-back : (n : ℕ) → n ≤ limit → n / 1 % 256 + n / 256 % 256 * 256 + n / 65536 % 256 * 65536 + n / 16777216 % 256 * 16777216 ≡ n
+four-back n h =
+    let first : n / 1 ≡ n = omega arith in
+    let third : n / 65536 ≡ n / 256 / 256 = omega arith in
+    let fourth : n / 16777216 ≡ n / 256 / 256 / 256 = omega arith in
+    let rest : n / 256 / 256 / 256 / 256 ≡ 0 = omega arith in
+    rw (first, third, fourth) (omega (arith, rest))
+
+-- what is stored of a tally within its limits is read back as it was
+pub tally-back : (t : Tally) → Within t → tallyAt (tallyBytes t) ≡ t
+unfolding tallyAt tallyBytes
+tally-back t w =
+    let bytes = four-back (t .bytes) (w .bytes) in
+    let busy = four-back (t .busy) (w .busy) in
+    let flickerless = four-back (t .flickerless) (w .flickerless) in
+    let worst = four-back (t .worst) (w .worst) in
+    λ i. record { bytes = bytes i; busy = busy i; flickerless = flickerless i; worst = worst i }
 
 -- ---- the run
 

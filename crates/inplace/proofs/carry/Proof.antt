@@ -58,7 +58,7 @@ returns-3 c =
     let p = c .before .before .before .before .before in
     let k = p .before .before in
     carried _ _ _ (formed k) (p .before .if2 .left) refl
-    (carries _ _ _ _ _ _ _ _ (sized (k .before .before .before)) (p .packed .ensures)
+    (carries _ _ _ _ _ _ (sized (k .before .before .before)) (p .packed .ensures)
     (c .unpacked .ensures ∙ enough _ (search needs)) (c .before .before .before .run-in .ensures))
 
 pub carry-spec : {M : Type 1} → statement M
