@@ -13,8 +13,8 @@ enum { BYTE_US = 573 }; /* a byte on the wire at 19,200 baud, with its parity */
 static uint8_t block[SIGN_BLOCK];
 static uint8_t tally[SIGN_TALLY];
 
-/* Here the wire would be reserved for so many microseconds: others use it too. Answers 0, or -1 where it is not
-   to be had now. */
+/* Here the wire would be reserved for so many microseconds: others use it too. Answers 0, or -1 where it is
+   not to be had now. */
 static int reserve(unsigned long us) { return printf("reserved %lu us, ", us) < 0 ? -1 : 0; }
 
 /* Here the bytes would go to the wire. Answers 0, or -1 where they could not be sent. */
@@ -26,17 +26,18 @@ static int to_the_wire(const uint8_t *bytes, size_t n) {
 
 static unsigned long worst(const uint8_t *t) { return sign_tally_number(t, SIGN_NUMBER_WORST); }
 
-/* Runs bytes on copies and sends them, in this order: bytes that are refused must not reach the module, which
-   would carry them out. In between the wire is reserved: for the bytes' own time there, and for what the run
-   adds to the worst number, which is how long the module may be busy with them, flickerless or not. Answers
-   NULL, or what went wrong. */
+/* Runs bytes on copies and sends them, in this order: bytes that are refused must not reach the module,
+   which would carry them out. In between the wire is reserved: for the bytes' own time there, and for what the
+   run adds to the worst number, which is how long the module may be busy with them, flickerless or not.
+   Answers NULL, or what went wrong. */
 static const char *run_and_send(const uint8_t *bytes, size_t n) {
     uint8_t next_block[SIGN_BLOCK], next_tally[SIGN_TALLY];
     memcpy(next_block, block, sizeof block);
     memcpy(next_tally, tally, sizeof tally);
     uint32_t refusal = sign_run(next_block, sizeof next_block, next_tally, sizeof next_tally, bytes, n);
     if (refusal != SIGN_ACCEPTED) return sign_refusal_text(refusal);
-    if (reserve(BYTE_US * (unsigned long)n + worst(next_tally) - worst(tally)) != 0) return "the wire is not free";
+    unsigned long us = BYTE_US * (unsigned long)n + worst(next_tally) - worst(tally);
+    if (reserve(us) != 0) return "the wire is not free";
     if (to_the_wire(bytes, n) != 0) return "the wire failed: the glass is in doubt (docs/HOST.md, Recovery)";
     memcpy(block, next_block, sizeof block);
     memcpy(tally, next_tally, sizeof tally);

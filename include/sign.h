@@ -112,9 +112,9 @@ enum sign_half {
 uint32_t sign_power_up(uint32_t font, uint8_t *block, size_t block_len);
 
 /* Does to the block what the module does with these bytes in turn, and adds to the tally: four
-   numbers of four bytes, low byte first: the bytes received, the microseconds that the sign is
-   busy, the bytes received while flickerless writing was already on, and the microseconds that the
-   sign is busy at the worst, which is 200 more for each byte that the third counts
+   numbers of four bytes, low byte first: the bytes received, the microseconds that the sign is busy
+   at the quickest, the bytes received while flickerless writing was already on, and the microseconds
+   that the sign is busy at the worst, which is 200 more for each byte that the third counts
    (sign_tally_number reads one). A scheduler reserves the bytes' own time on the wire and what the
    run adds to the fourth: docs/HOST.md, Busy time and sharing the wire.
    Answers 0, and then block and tally are up to date, and the bytes are to be sent; or 1, 2, 3, 4

@@ -101,12 +101,12 @@ example)
     $RUN "$out/example" >"$out/example.txt"
     cat "$out/example.txt"
     diff examples/host.txt "$out/example.txt"
-    # the lines in C that README and docs/HOST.md show; those of the latter that count are run
+    # the lines in C that README and docs/HOST.md show; `wire_us` and `widen` of the latter are run
     fence README.md c >"$out/readme.c"
     {
         for name in fcntl stddef stdint sys/file termios unistd; do echo "#include <$name.h>"; done
         echo 'int open_port(const char *name);'
-        echo 'uint32_t reserve(const uint8_t *block, const uint8_t *bytes, size_t n, uint32_t byte_us);'
+        echo 'uint32_t wire_us(const uint8_t *block, const uint8_t *bytes, size_t n, uint32_t byte_us);'
         echo 'void widen(uint8_t *tally);'
         fence docs/HOST.md c
         cat tests/page.c

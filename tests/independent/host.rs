@@ -770,5 +770,5 @@ fn main() {
                 .expect(met[n] > 0, || format!("no {} was answered {}", name, n));
         }
     }
-    h.report.end("host", 960_000);
+    h.report.end("host", 970_000);
 }

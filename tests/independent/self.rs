@@ -491,5 +491,5 @@ fn main() {
     two_fonts_refused(&mut r, &moves);
     conditions(&mut r);
     // the bench sheet, the sample, examples by hand, ways, plans of two fonts and their refusals, conditions and each byte on each
-    r.end("self", 14 + 2 + 28 + 1_603 + 2_017 + 15 + 3_000 + 768_000);
+    r.end("self", 14 + 2 + 31 + 1_603 + 2_017 + 15 + 3_000 + 768_000);
 }

@@ -22,13 +22,14 @@ fn main() {
     let mut s = Program::new("show", module::show);
     let mut rng = Rng::new(2);
 
-    // nothing, the sample, each single byte
+    // nothing, the sample, each single byte, alone and while flickerless is on
     for &by in &[By::Pipe, By::Pieces, By::File] {
         s.try_on(&[], by);
         s.try_on(&[0x41, 0x0A, 0x42, 0x0C], by);
     }
     for b in 0..=255u8 {
         s.on(&[b]);
+        s.on(&[0x1B, 0x53, b, 0x41]);
     }
 
     // every ESC sequence, cut at every place, alone and with bytes after it
@@ -146,5 +147,5 @@ fn main() {
         );
     }
 
-    s.end(5_000);
+    s.end(5_300);
 }

@@ -1,5 +1,5 @@
 // Each byte's busy figures, in microseconds (document 01, Busy time and the tally; document 02, W2). The quick one is told by what
-// the byte does; the worst one follows from it.
+// the byte does; the worst one follows from it and from whether flickerless was on.
 ghost use mathlib.Core.Path.{_≡_};
 ghost use Prim.Native.Nat.{_≤_, _<_};
 ghost use lib.Dec.{eqb};

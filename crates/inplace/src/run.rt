@@ -33,8 +33,8 @@ fn character(s: &mut [u8], b: u8) -> u8
     figure
 }
 
-// What a byte does; the answer is its busy figures. Whether flickerless is on is looked at before the byte is carried out, which may
-// change it. Printable bytes are told first: they are the most.
+// What a byte does; the answer is its busy figures. Whether flickerless is on is looked at before the byte is carried out, which
+// may change it. Printable bytes are told first: they are the most.
 fn step(s: &mut [u8], b: u8) -> Figures
     requires { ⌜ (200 ≤ length (now s)) × (getD (now s) 3 0 < 40) ⌝ }
     ensures { λ r. ⌜ Stepped (conditionIn (now (s .entry))) b (conditionIn (now (s .exit))) r ⌝ }

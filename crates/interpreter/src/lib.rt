@@ -3,7 +3,7 @@ ghost use mathlib.Core.Path.{_≡_};
 ghost use Rattle.interpreter.specs.Run.{withinLimit, zeroTally, refusedOf, RunPromise, LentPromise};
 use condition::Condition;
 
-// What a run adds to: bytes, busy microseconds, bytes received while flickerless was already on, and busy microseconds at the worst.
+// What a run adds to: bytes, busy microseconds, bytes received while flickerless was already on, busy microseconds at the worst.
 pub struct Tally {
     pub bytes: u32,
     pub busy: u32,
