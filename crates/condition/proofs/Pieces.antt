@@ -35,24 +35,23 @@ total-append f c (x ∷ xs) ys = rw (total-append f (stepOf c x) xs ys, add-asso
 
 -- Byte by byte, over what is left of the bytes ----------------------------------------------------------------------------
 
-module _ (c : Condition) (bs : List ℕ) (i : ℕ) (h : i < length bs) where
-  pub run-turn : runOf (stepOf c (getD bs i 0)) (drop (i + 1) bs) ≡ runOf c (drop i bs)
-  unfolding runOf
-  run-turn = rw (add-one, drop-cons bs i 0 h)
+pub run-turn : (c : Condition) (bs : List ℕ) (i : ℕ) → i < length bs
+    → runOf (stepOf c (getD bs i 0)) (drop (i + 1) bs) ≡ runOf c (drop i bs)
+unfolding runOf
+run-turn c bs i h = rw (add-one, drop-cons bs i 0 h)
 
-  pub total-turn : (f : Condition → ℕ → ℕ)
-      → f c (getD bs i 0) + totalOf f (stepOf c (getD bs i 0)) (drop (i + 1) bs) ≡ totalOf f c (drop i bs)
-  unfolding totalOf
-  total-turn f = rw (add-one, drop-cons bs i 0 h)
+pub total-turn : (f : Condition → ℕ → ℕ) (c : Condition) (bs : List ℕ) (i : ℕ) → i < length bs
+    → f c (getD bs i 0) + totalOf f (stepOf c (getD bs i 0)) (drop (i + 1) bs) ≡ totalOf f c (drop i bs)
+unfolding totalOf
+total-turn f c bs i h = rw (add-one, drop-cons bs i 0 h)
 
-module _ (c : Condition) (bs : List ℕ) (i : ℕ) (h : length bs ≤ i) where
-  pub run-ended : runOf c (drop i bs) ≡ c
-  unfolding runOf
-  run-ended = rw (drop-of-length-le bs h)
+pub run-ended : (c : Condition) (bs : List ℕ) (i : ℕ) → length bs ≤ i → runOf c (drop i bs) ≡ c
+unfolding runOf
+run-ended c bs i h = rw (drop-of-length-le bs h)
 
-  pub total-ended : (f : Condition → ℕ → ℕ) → totalOf f c (drop i bs) ≡ 0
-  unfolding totalOf
-  total-ended f = rw (drop-of-length-le bs h)
+pub total-ended : (f : Condition → ℕ → ℕ) (c : Condition) (bs : List ℕ) (i : ℕ) → length bs ≤ i → totalOf f c (drop i bs) ≡ 0
+unfolding totalOf
+total-ended f c bs i h = rw (drop-of-length-le bs h)
 
 -- The most that a byte and a run add ---------------------------------------------------------------------------------------
 

@@ -44,7 +44,7 @@ escapeBusy b =
     (cond (eqb b 0x4C) 4
     (cond (eqb b 0x54) 4 6))))
 
--- position and luminance 4; speed 6; user code 6, d1-d4 6, d5 15
+-- the quick figure, by what is half received: position and luminance 4; speed 6; user code 6, d1-d4 6, d5 15
 unfoldable pub quickAt : Pending → Condition → ℕ → ℕ
 quickAt Nothing c b = cond (isChar c b) (writeBusy c) (controlBusy c b)
 quickAt Escape c b = escapeBusy b
@@ -54,26 +54,26 @@ quickAt Speed c b = 6
 quickAt UserCode c b = 6
 quickAt (UserData code n) c b = cond (ltb n 4) 6 15
 
--- up to 200 more for each byte in flickerless mode: the worst figure is 200 higher when flickerless was already on
+-- the quick one and the worst one, which is 200 higher when flickerless was already on (source 000: up to 200us longer)
 abbrev pub figuresBy : ℕ → Bool → Figures
 figuresBy quick on = record { quick = quick; worst = cond on (quick + 200) quick }
 
--- a byte's busy figures
+-- a byte's busy figures, by the condition before it
 abbrev pub figuresOf : Condition → ℕ → Figures
 figuresOf c b = figuresBy (quickAt (c .pending) c b) (c .flickerless)
 
--- what a run's bytes come to, where each is counted in the condition that it meets
+-- what a run's bytes come to, where each is counted by the condition before it
 unfoldable pub totalOf : (Condition → ℕ → ℕ) → Condition → List ℕ → ℕ
 totalOf count c [] = 0
 totalOf count c (b ∷ bs) = count c b + totalOf count (stepOf c b) bs
 
+-- what is counted for a byte: its quick figure, its worst figure, and 1 where it is received while flickerless is already on
 abbrev pub quickFigure : Condition → ℕ → ℕ
 quickFigure c b = figuresOf c b .quick
 
 abbrev pub worstFigure : Condition → ℕ → ℕ
 worstFigure c b = figuresOf c b .worst
 
--- 1 for a byte that is received while flickerless is already on
 abbrev pub whileOn : Condition → ℕ → ℕ
 whileOn c b = flag (c .flickerless)
 

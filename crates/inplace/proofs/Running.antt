@@ -69,16 +69,16 @@ module _ (c : Condition) (bs s : List ℕ) (busy flickerless worst i : ℕ) (g :
         room = omega (arith, g .room);
         formed = rw (st .leaves) (step-kept k (getD bs i 0) (sized-in s (g .room)) b (g .formed));
         leaves = rw (st .leaves) (run-turn k bs i h ∙ g .leaves);
-        takes = rw (st .leaves, st .takes) (omega (arith, total-turn k bs i h quickFigure, g .takes));
-        flickers = rw (st .leaves, e, ← flickerless-at s) (omega (arith, total-turn k bs i h whileOn, g .flickers));
-        lasts = rw (st .leaves, st .takes) (omega (arith, total-turn k bs i h worstFigure, g .lasts));
+        takes = rw (st .leaves, st .takes) (omega (arith, total-turn quickFigure k bs i h, g .takes));
+        flickers = rw (st .leaves, e, ← flickerless-at s) (omega (arith, total-turn whileOn k bs i h, g .flickers));
+        lasts = rw (st .leaves, st .takes) (omega (arith, total-turn worstFigure k bs i h, g .lasts));
       }
 
   pub going-ends : length bs ≤ i
       → Carried c bs (conditionIn s) (record { busy = busy; flickerless = flickerless; worst = worst })
   going-ends h =
       let k = conditionIn s in
-      let b : busy ≡ busyOf c bs = omega (arith, total-ended k bs i h quickFigure, g .takes) in
-      let f : flickerless ≡ flickerlessOf c bs = omega (arith, total-ended k bs i h whileOn, g .flickers) in
-      let w : worst ≡ worstOf c bs = omega (arith, total-ended k bs i h worstFigure, g .lasts) in
+      let b : busy ≡ busyOf c bs = omega (arith, total-ended quickFigure k bs i h, g .takes) in
+      let f : flickerless ≡ flickerlessOf c bs = omega (arith, total-ended whileOn k bs i h, g .flickers) in
+      let w : worst ≡ worstOf c bs = omega (arith, total-ended worstFigure k bs i h, g .lasts) in
       record { leaves = sym (run-ended k bs i h) ∙ g .leaves; spends = λ j. record { busy = b j; flickerless = f j; worst = w j } }

@@ -7,8 +7,8 @@ use native.Mathlib.Omega.{arith}
 use lib.Dec.{eqb, ltb, leb}
 use lib.ListN.{length, getD, length-append}
 use native.Mathlib.Nat.{add-assoc, add-zero}
-use borrow.Author.Tests.{eq-eqb, ne-eqb, leb-true, eqb-true, eqb-false}
-use Rattle.laws.proofs.Tests.{both, by-test}
+use borrow.Author.Tests.{eq-eqb, ne-eqb, leb-true, eqb-true, eqb-false, not-false}
+use Rattle.laws.proofs.Tests.{both, by-test, passed, number-by}
 use Rattle.condition.specs.declared.Condition.{Condition}
 use Rattle.condition.specs.Condition.{wellFormed}
 use Rattle.condition.specs.Bytes.{runOf}
@@ -175,6 +175,10 @@ accepted-append c t xs ys =
       ← add-assoc (t .worst) (worstOf c xs) (worstOf (runOf c xs) ys),
     )
 
+refusal-of : (c : Condition) (t : Tally) (bs : List ℕ) → runAnswer c t bs .refusal ≡ runRefusal c t bs
+unfolding runAnswer
+refusal-of c t bs = number-by (λ (r : Ran). r .refusal) (runRefusal c t bs) refl refl
+
 not-refused : (c : Condition) (t : Tally) (bs : List ℕ) → runAnswer c t bs .refusal ≡ 0 → runAnswer c t bs ≡ acceptedOf c t bs
 unfolding runAnswer
 not-refused c t bs =
@@ -195,3 +199,23 @@ turns c t (bs ∷ pieces) =
 pub in-pieces : (c : Condition) (t : Tally) (pieces : List (List ℕ)) (r : Ran) → RunPromise c t (flatten pieces) r
     → r .refusal ≡ 0 → inTurn c t pieces .refusal ≡ 0 → r ≡ inTurn c t pieces
 in-pieces c t pieces r p z y = p .answer ∙ not-refused c t (flatten pieces) (rw (p .answer) at z) ∙ sym (turns c t pieces y)
+
+-- and two runs, of which neither is refused, nor the one with the bytes of both
+pub two-runs : (c : Condition) (t : Tally) (xs ys : List ℕ) → runAnswer c t xs .refusal ≡ 0
+    → runAnswer (runAnswer c t xs .condition) (runAnswer c t xs .tally) ys .refusal ≡ 0 → runAnswer c t (xs ++ ys) .refusal ≡ 0
+    → runAnswer (runAnswer c t xs .condition) (runAnswer c t xs .tally) ys ≡ runAnswer c t (xs ++ ys)
+two-runs c t xs ys p q w =
+    let r = runAnswer c t xs in
+    let e : r ≡ acceptedOf c t xs = not-refused c t xs p in
+    not-refused (r .condition) (r .tally) ys q ∙ ap (λ (k : Ran). acceptedOf (k .condition) (k .tally) ys) e
+    ∙ accepted-append c t xs ys ∙ sym (not-refused c t (xs ++ ys) w)
+
+-- the tally of an accepted run is within its limits
+pub ran-within : (c : Condition) (t : Tally) (bs : List ℕ) → runAnswer c t bs .refusal ≡ 0 → Within (runAnswer c t bs .tally)
+unfolding runRefusal
+ran-within c t bs z =
+    let e : runRefusal c t bs ≡ 0 = sym (refusal-of c t bs) ∙ z in
+    let p = passed (not (wellFormed c && withinLimit t)) 2 _ e in
+    let q = passed (ltb 32768 (length bs)) 3 _ (p .1) in
+    let l = passed (not (withinLimit (tallied t c bs))) 4 0 (q .1) in
+    rw (not-refused c t bs z) (within (tallied t c bs) (not-false _ (l .0)))

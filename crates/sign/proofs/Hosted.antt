@@ -1,13 +1,13 @@
 -- What the host's calls leave, by where they stop.
 use mathlib.Core.Path.{_≡_, sym, ap, _∙_, subst}
-use mathlib.Core.Bool.{Bool, true, false}
-use mathlib.Core.List.{List}
+use mathlib.Core.Bool.{Bool, true, false, not}
+use mathlib.Core.List.{List, _++_}
 use Prim.Native.Nat.{ℕ, _+_, _*_, _/_, _%_, _<_, _≤_}
 use native.Mathlib.Omega.{arith}
 use lib.Dec.{eqb, leb}
 use lib.ListN.{length, take}
-use borrow.Author.Tests.{eq-eqb, ne-eqb, leb-true}
-use Rattle.laws.proofs.Tests.{by-cases, by-equal}
+use borrow.Author.Tests.{eq-eqb, ne-eqb, leb-true, eqb-true, eqb-false, not-false}
+use Rattle.laws.proofs.Tests.{by-cases, by-equal, passed}
 use Rattle.condition.specs.declared.Condition.{Condition}
 use Rattle.condition.specs.declared.Outcome.{Outcome}
 use Rattle.condition.specs.Condition.{wellFormed, powerUp, powerUpAnswer}
@@ -23,11 +23,11 @@ use Rattle.row.specs.Row.{laid}
 use Rattle.row.proofs.Laws.{filled}
 use Rattle.block.proofs.Sealing.{put-whole}
 use Rattle.block.proofs.Damaged.{whole-length}
-use Rattle.block.proofs.RoundTrip.{refusal-of, reread}
+use Rattle.block.proofs.RoundTrip.{condition-back, refusal-of, reread}
 use Rattle.interpreter.specs.declared.Tally.{Tally}
 use Rattle.interpreter.specs.declared.Ran.{Ran}
 use Rattle.interpreter.specs.Run.{limit, RunPromise, runAnswer}
-use Rattle.interpreter.proofs.Answers.{Within, run-unformed, ran-sized}
+use Rattle.interpreter.proofs.Answers.{Within, run-unformed, ran-sized, ran-within, two-runs}
 use Rattle.planner.specs.declared.Planned.{Planned}
 use Rattle.planner.specs.Answer.{bytesBy, Promise, Plans, PlansFonts}
 use Rattle.host.specs.declared.Base.the-variants.{Plan}
@@ -117,6 +117,49 @@ module _ (b t bs : List ℕ) (h : length t ≡ 16) where
           let s : Sized (r .condition) = rw told (ran-sized (conditionIn b) (tallyAt t) bs (sized-in b (omega arith))) in
           let sixteen : length n ≡ 16 = ap length en in
           run-done b′ t′ good s (eb ∙ put-whole (r .condition) b room) (et ∙ filled n t 16 sixteen h ∙ en)
+
+-- ---- one run or several
+
+-- what an accepted run tells
+record Done (b t bs b′ t′ : List ℕ) : Type 0 where
+  pub takes : ranOf b t bs .refusal ≡ 0
+  pub sized : Sized (ranOf b t bs .condition)
+  pub block : b′ ≡ blockOf (ranOf b t bs .condition)
+  pub tally : t′ ≡ tallyBytes (ranOf b t bs .tally)
+
+done : {b t bs b′ t′ : List ℕ} → HostRun b t bs 0 b′ t′ → Done b t bs b′ t′
+unfolding hostRunRefusal hostRefusalBy readRefusal blockAfter tallyAfter
+done {b} {t} {bs} {b′} {t′} h =
+    let e : hostRunRefusal b t bs ≡ 0 = sym (h .answer) in
+    let p = passed (not (eqb (length t) 16)) 0 _ e in
+    by-cases (eqb (readRefusal b) 0)
+    (λ z. let long = passed (not (eqb (length b) 512)) 0 _ (eqb-true (readRefusal b) 0 z) in
+    let room : length b ≡ 512 = eqb-true (length b) 512 (not-false _ (long .0)) in
+    record {
+      takes = rw z at (p .1);
+      sized = ran-sized (conditionIn b) (tallyAt t) bs (sized-in b (omega arith));
+      block = h .block ∙ rw e;
+      tally = h .tally ∙ rw e;
+    })
+    (λ z. absurd (eqb-false (readRefusal b) 0 z (rw z at (p .1))))
+
+-- two runs on a block and a tally leave what one with the bytes of both leaves, where none of the three is refused
+pub two-host-runs : {b t xs ys b₁ t₁ b₂ t₂ b₃ t₃ : List ℕ} → HostRun b t xs 0 b₁ t₁ → HostRun b₁ t₁ ys 0 b₂ t₂
+    → HostRun b t (xs ++ ys) 0 b₃ t₃ → (b₂ ≡ b₃) × (t₂ ≡ t₃)
+two-host-runs {b} {t} {xs} {ys} {b₁} {t₁} f g h =
+    let first = done f in
+    let second = done g in
+    let whole = done h in
+    let r = ranOf b t xs in
+    let c : conditionIn b₁ ≡ r .condition = ap conditionIn (first .block) ∙ condition-back (r .condition) (first .sized) in
+    let y : tallyAt t₁ ≡ r .tally =
+    ap tallyAt (first .tally) ∙ tally-back (r .tally) (ran-within (conditionIn b) (tallyAt t) xs (first .takes)) in
+    let on : ranOf b₁ t₁ ys ≡ runAnswer (r .condition) (r .tally) ys = rw (c, y) in
+    let e : ranOf b₁ t₁ ys ≡ ranOf b t (xs ++ ys) =
+    on ∙ two-runs (conditionIn b) (tallyAt t) xs ys (first .takes) (rw on at (second .takes)) (whole .takes) in (
+      second .block ∙ ap (λ (k : Ran). blockOf (k .condition)) e ∙ sym (whole .block),
+      second .tally ∙ ap (λ (k : Ran). tallyBytes (k .tally)) e ∙ sym (whole .tally),
+    )
 
 -- ---- the plans
 
