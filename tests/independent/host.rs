@@ -608,6 +608,15 @@ fn random_plans(h: &mut Host, cases: usize) {
     }
 }
 
+/// Codes defined again: each code, at each age.
+fn redefinitions(h: &mut Host) {
+    for code in 0..=255 {
+        for bytes in inputs::redefinition_on(code) {
+            h.run(&Condition::power_up(0).to_block(), &ZERO, &bytes);
+        }
+    }
+}
+
 /// The same bytes in one run or in several end alike.
 fn pieces(h: &mut Host, cases: usize) {
     for i in 0..cases {
@@ -737,6 +746,7 @@ fn main() {
     damaged_blocks(&mut h);
     random_runs(&mut h, 40_000);
     random_plans(&mut h, 40_000);
+    redefinitions(&mut h);
     pieces(&mut h, 2_000);
     long_day(&mut h);
     threads(&mut h);
@@ -770,5 +780,5 @@ fn main() {
                 .expect(met[n] > 0, || format!("no {} was answered {}", name, n));
         }
     }
-    h.report.end("host", 970_000);
+    h.report.end("host", 1_010_000);
 }

@@ -281,6 +281,23 @@ pub fn users_on_every_code() -> Vec<Vec<u8>> {
     all
 }
 
+/// 15 to 20 definitions, of which one is of a code defined before, at each age, with 14 to 16 held.
+pub fn redefinition_on(code: u8) -> Vec<Vec<u8>> {
+    let mut all = Vec::new();
+    for held in 14..=16u8 {
+        for age in 0..held {
+            for new in 0..=3 {
+                let nth = |i: u8| code.wrapping_add(i).wrapping_sub(age);
+                let mut input: Vec<u8> = (0..held).flat_map(|i| define(nth(i), [i; 5])).collect();
+                input.extend(define(code, [0x5A, 0xA5, 0x5A, 0xA5, 0xF5]));
+                input.extend((held..held + new).flat_map(|i| define(nth(i), [i; 5])));
+                all.push(input);
+            }
+        }
+    }
+    all
+}
+
 /// 15 to 20 user characters, with one defined again before the 17th, each then written.
 pub fn many_users() -> Vec<Vec<u8>> {
     let mut all = Vec::new();

@@ -302,17 +302,22 @@ impl Condition {
         }
     }
 
-    /// A code already defined keeps its age; a new one is youngest; with 16 held the oldest goes.
+    /// A code defined again moves to the youngest place with its new bytes, and a new one comes there too; with 16
+    /// held a new one pushes the oldest out.
     fn define(&mut self, user: User) {
-        if let Some(i) = self.place_of_user(user.code) {
-            self.users[i] = user;
-        } else if self.count < USERS {
-            self.users[self.count] = user;
-            self.count += 1;
-        } else {
-            self.users.rotate_left(1);
-            self.users[USERS - 1] = user;
+        let mut others = 0;
+        for i in 0..self.count {
+            if self.users[i].code != user.code {
+                self.users[others] = self.users[i];
+                others += 1;
+            }
         }
+        if others == USERS {
+            self.users.copy_within(1.., 0);
+            others -= 1;
+        }
+        self.users[others] = user;
+        self.count = others + 1;
     }
 
     fn write(&mut self, b: u8) -> u64 {

@@ -1,4 +1,4 @@
-//! The independent program alone: the fourteen cases of the bench sheet, the sample, and the rules of
+//! The independent program alone: the fifteen cases of the bench sheet, the sample, and the rules of
 //! document 01 and of requests W1 and W2 that it can be held to by itself. It uses nothing of the product.
 
 mod inputs;
@@ -95,6 +95,18 @@ fn bench_sheet(r: &mut Report, moves: &Moves) {
 
     let (c, _) = after(&[0x1B, 0x48, 0x14]);
     bench(r, 14, plan(&c, &[0x20; 40], 19, moves) == Ok(vec![0x1B, 0x48, 0x13]));
+
+    // 16 held, the oldest defined again, a new one: the former second is gone
+    let mut bytes = Vec::new();
+    for code in 0x80..=0x8F {
+        bytes.extend(inputs::define(code, [0; 5]));
+    }
+    bytes.extend(inputs::define(0x80, [5; 5]));
+    bytes.extend(inputs::define(0x90, [0; 5]));
+    let (c, t) = after(&bytes);
+    let codes: Vec<u8> = c.users[..c.count].iter().map(|u| u.code).collect();
+    let left: Vec<u8> = (0x82..=0x8F).chain([0x80, 0x90]).collect();
+    bench(r, 15, codes == left && c.users[14].dots == [5; 5] && t.busy == 990);
 }
 
 fn sample(r: &mut Report) {
@@ -196,7 +208,7 @@ fn worked_examples(r: &mut Report) {
             format!("example {}", hex(bytes))
         });
     }
-    // user characters: the fifth byte is cut; the seventeenth ends the oldest, and a redefinition none
+    // user characters: the fifth byte is cut; the seventeenth ends the oldest, and a redefinition none, but is the youngest
     let (c, _) = after(examples[3].0);
     r.cases += 1;
     r.expect(
@@ -220,7 +232,7 @@ fn worked_examples(r: &mut Report) {
     });
     bytes.extend_from_slice(&[0x1B, 0x43, 0x0E, 0, 0, 0, 0, 0, 0x41, 0x0E, 0x0C]);
     let (c, _) = after(&bytes);
-    let right = c.codes == picture(&[(0, 0x41), (1, 0x0E)]) && c.cursor == 0 && c.users[0].code == 0x80;
+    let right = c.codes == picture(&[(0, 0x41), (1, 0x0E)]) && c.cursor == 0 && c.users[0].code == 0x81 && c.users[14].code == 0x80;
     r.cases += 1;
     r.expect(right, || "the seventeenth user character".to_string());
     // fonts and the Euro mark
@@ -483,7 +495,7 @@ fn main() {
     let mut r = Report::new();
     let moves = Moves::new();
     bench_sheet(&mut r, &moves);
-    println!("bench sheet: 14 cases, {} differences", r.differences);
+    println!("bench sheet: 15 cases, {} differences", r.differences);
     sample(&mut r);
     worked_examples(&mut r);
     move_rule(&mut r, &moves);
@@ -491,5 +503,5 @@ fn main() {
     two_fonts_refused(&mut r, &moves);
     conditions(&mut r);
     // the bench sheet, the sample, examples by hand, ways, plans of two fonts and their refusals, conditions and each byte on each
-    r.end("self", 14 + 2 + 31 + 1_603 + 2_017 + 15 + 3_000 + 768_000);
+    r.end("self", 15 + 2 + 31 + 1_603 + 2_017 + 15 + 3_000 + 768_000);
 }

@@ -1,9 +1,9 @@
--- The bench sheet holds: computed from the definitions, all fourteen cases under one statement.
+-- The bench sheet holds: computed from the definitions, all fifteen cases under one statement.
 use mathlib.Core.Path.{refl}
 use lib.ListN.{length}
 use borrow.Author.Tests.{eq-eqb, le-leb}
-use Rattle.row.specs.Row.{lineStart, scrolled, shifted}
-use Rattle.users.specs.Users.{limitOf, foundIn, isUser, characterAt, putOf, definedAt, defineOf}
+use Rattle.row.specs.Row.{lineStart, scrolled, shifted, closed, removed}
+use Rattle.users.specs.Users.{roomOf, limitOf, foundIn, isUser, characterAt, putOf, without, withYoungest, defineOf}
 use Rattle.dots.specs.Dots.{dotOf, litUpTo, litOf}
 use Rattle.condition.specs.Condition.{allUpTo, absent, usersGood, pendingGood, numbersGood, scrollGood, escapeGood, wellFormed}
 use Rattle.condition.specs.Condition.{powerUp}
@@ -24,12 +24,12 @@ use Rattle.bench_sheet.specs.FontsSheet.{fontsSheet}
 use Rattle.bench_sheet.specs.TallySheet.{AllCount, tallySheet}
 
 pub bench : AllHold sheet
-unfolding powerUp runOf stepAt isChar isUser foundIn limitOf writeOf pushOf rightOf scrollOf scrolled shifted lineStart
-    controlOf leftOf downOf returnOf clearOf escapeOf positionOf dataOf defineOf definedAt putOf totalOf quickAt writeBusy
-    controlBusy escapeBusy rightScrolls downScrolls lineShifts showsOf showsCode dotsUpTo dotAnswer litAnswer lookupOf
-    wellFormed numbersGood scrollGood allUpTo usersGood absent pendingGood escapeGood characterAt dotOf litOf litUpTo wrong left
-    next down move near1 near2 dist leaves firstByte pathOf path flagged planOf plan onMove lacks someLacks refusalBy
-    planRefusal
+unfolding powerUp runOf stepAt isChar isUser foundIn limitOf roomOf writeOf pushOf rightOf scrollOf scrolled shifted lineStart
+    controlOf leftOf downOf returnOf clearOf escapeOf positionOf dataOf defineOf without withYoungest removed closed putOf
+    totalOf quickAt writeBusy controlBusy escapeBusy rightScrolls downScrolls lineShifts showsOf showsCode dotsUpTo dotAnswer
+    litAnswer lookupOf wellFormed numbersGood scrollGood allUpTo usersGood absent pendingGood escapeGood characterAt dotOf litOf
+    litUpTo wrong left next down move near1 near2 dist leaves firstByte pathOf path flagged planOf plan onMove lacks
+    someLacks refusalBy planRefusal
 bench = (
   (refl, refl),
   (
@@ -50,7 +50,7 @@ bench = (
                   (refl, refl),
                   (
                     (refl, refl, λ wanted asked room l q. rw (eq-eqb (length wanted) 40 l, le-leb asked 39 q)),
-                    ((refl, refl), ((refl, refl), (((refl, refl), refl), ((refl, refl), tt)))),
+                    ((refl, refl), ((refl, refl), (((refl, refl), refl), ((refl, refl), ((refl, refl, refl, refl, refl), tt))))),
                   ),
                 ),
               ),
@@ -64,14 +64,14 @@ bench = (
 
 -- and the cases for two fonts
 pub fonts-bench : AllHold fontsSheet
-unfolding powerUp runOf stepAt isChar isUser foundIn limitOf controlOf escapeOf positionOf wellFormed numbersGood scrollGood
+unfolding powerUp runOf stepAt isChar isUser foundIn limitOf roomOf controlOf escapeOf positionOf wellFormed numbersGood scrollGood
     allUpTo usersGood absent pendingGood escapeGood left next down move near1 near2 dist lineStart leaves firstByte pathOf path
     flagged wrongFor switch fontsPlanOf fontsPlan onMove onSwitch lacks someLacks refusalBy fontsRefusal
 fonts-bench = ((refl, refl), ((refl, refl), ((refl, refl), tt)))
 
 -- and the cases for the tally
 pub tally-bench : AllCount tallySheet
-unfolding powerUp stepAt isChar isUser foundIn limitOf writeOf rightOf controlOf downOf escapeOf totalOf quickAt writeBusy
+unfolding powerUp stepAt isChar isUser foundIn limitOf roomOf writeOf rightOf controlOf downOf escapeOf totalOf quickAt writeBusy
     controlBusy escapeBusy rightScrolls downScrolls lineShifts wellFormed numbersGood scrollGood allUpTo usersGood pendingGood
     escapeGood absent withinLimit tallied runRefusal runAnswer
 tally-bench = ((refl, refl), ((refl, refl), ((refl, refl), tt)))

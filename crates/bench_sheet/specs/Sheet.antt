@@ -1,10 +1,11 @@
--- The bench sheet (document 01): fourteen cases, each from power-up font 0.
+-- The bench sheet (document 01; the last case 02, W3): fifteen cases, each from power-up font 0.
 use Prim.Native.Nat.{ℕ, zero, suc, _≤_}
 use mathlib.Core.Path.{_≡_}
 use mathlib.Core.List.{List, [], _∷_, _++_}
-use mathlib.Core.Bool.{cond}
+use mathlib.Core.Bool.{true, false, cond}
 use lib.ListN.{length, getD, set, drop, replicate}
 use lib.Dec.{eqb}
+use Rattle.users.specs.Users.{isUser, placeAt}
 use Rattle.condition.specs.declared.Condition.{Condition}
 use Rattle.glass.specs.declared.Shows.the-variants.{Blank, Euro}
 use Rattle.condition.specs.Condition.{powerUp}
@@ -32,6 +33,24 @@ cell c i = getD (c .codes) i 0
 unfoldable pub dotsUpTo : Condition → ℕ → ℕ → List ℕ
 dotsUpTo c code zero = []
 dotsUpTo c code (suc n) = dotsUpTo c code n ++ cond (eqb (dotAnswer c code (suc n) .value) 1) (suc n ∷ []) []
+
+-- 1B 43, a code, and the byte d five times
+abbrev pub defining : ℕ → ℕ → List ℕ
+defining code d = 0x1B ∷ 0x43 ∷ code ∷ d ∷ d ∷ d ∷ d ∷ d ∷ []
+
+-- the same for n codes from `first` on
+abbrev pub definingFrom : ℕ → ℕ → ℕ → List ℕ
+definingFrom zero first d = []
+definingFrom (suc n) first d = defining first d ++ definingFrom n (suc first) d
+
+-- the codes of n places, oldest first
+abbrev pub codesIn : ℕ → List ℕ → List ℕ
+codesIn zero us = []
+codesIn (suc n) us = getD us 0 0 ∷ codesIn n (drop 6 us)
+
+-- the codes that have a user character, oldest first
+abbrev pub userCodes : Condition → List ℕ
+userCodes c = codesIn (c .users .count) (c .users .bytes)
 
 -- the plan is accepted, with room for 44 bytes, and is these bytes
 abbrev pub Planned : Condition → List ℕ → ℕ → List ℕ → Type 0
@@ -94,4 +113,13 @@ sheet =
     }
     -- 14. 1B 48 14, then plan a blank picture, cursor 19: 1B 48 13
     ∷ record { bytes = 0x1B ∷ 0x48 ∷ 0x14 ∷ []; holds = λ c busy. Planned c blank 19 (0x1B ∷ 0x48 ∷ 0x13 ∷ []) }
+    -- 15. user characters on 80h to 8Fh, 80h again with other bytes, then 90h: 81h is gone and 80h is not; busy 990
+    ∷ record {
+      bytes = definingFrom 16 0x80 0x00 ++ defining 0x80 0x05 ++ defining 0x90 0x00;
+      holds = λ c busy.
+          (userCodes c
+          ≡ 0x82 ∷ 0x83 ∷ 0x84 ∷ 0x85 ∷ 0x86 ∷ 0x87 ∷ 0x88 ∷ 0x89 ∷ 0x8A ∷ 0x8B ∷ 0x8C ∷ 0x8D ∷ 0x8E ∷ 0x8F ∷ 0x80 ∷ 0x90 ∷ [])
+          × (placeAt (c .users .bytes) 14 ≡ 0x80 ∷ 0x05 ∷ 0x05 ∷ 0x05 ∷ 0x05 ∷ 0x05 ∷ [])
+          × (isUser (c .users) 0x80 ≡ true) × (isUser (c .users) 0x81 ≡ false) × (busy ≡ 990);
+    }
     ∷ []

@@ -2,13 +2,13 @@
 use mathlib.Core.Path.{_≡_, refl, _∙_}
 use mathlib.Core.Bool.{true, _&&_}
 use mathlib.Core.List.{List}
-use Prim.Native.Nat.{ℕ, _<_, _≤_}
+use Prim.Native.Nat.{ℕ, _<_, _≤_, _%_}
 use lib.Dec.{leb, ltb, eqb}
 use lib.ListN.{set, length, length-set}
 use borrow.Author.Tests.{leb-true, ltb-true, le-leb, lt-ltb}
 use Rattle.laws.proofs.Tests.{clash, both, by-test}
 use Rattle.row.proofs.Laws.{line-start-most, scrolled-40, shifted-40}
-use Rattle.users.proofs.Places.{define-96}
+use Rattle.users.proofs.Places.{define-length}
 use Rattle.condition.specs.declared.Condition.{Condition}
 use Rattle.condition.specs.declared.Pending.{Pending}
 use Rattle.condition.specs.declared.Pending.the-variants.{Nothing, Escape, Position, Luminance, Speed, UserCode, UserData}
@@ -182,7 +182,7 @@ commands-sized c b s =
       user-data =
           λ code n e. by-test Sized (ltb n 4)
           (λ _. let l : length (set (c .held) n b) ≡ 4 = length-set (c .held) n b ∙ s .held-4 in search)
-          (λ _. let l = define-96 (c .users) code (c .held) b (s .users-96) in search);
+          (λ _. let l = define-length (c .users) code (c .held) (b % 16) ∙ s .users-96 in search);
     }
 
 pub step-sized : (c : Condition) (b : ℕ) → Sized c → Sized (stepOf c b)

@@ -11,7 +11,7 @@ use borrow.Author.Tests.{ltb-true, leb-true, le-leb, ne-eqb}
 use Rattle.laws.proofs.Tests.{both, neither, by-test}
 use Rattle.row.specs.Row.{lineStart, scrolled, shifted}
 use Rattle.users.specs.Users.{isUser}
-use Rattle.users.proofs.Places.{not-user, define-count}
+use Rattle.users.proofs.Places.{room-96, not-user, define-most}
 use Rattle.condition.specs.declared.Condition.{Condition}
 use Rattle.condition.specs.declared.Pending.{Pending}
 use Rattle.condition.specs.declared.Pending.the-variants.{Nothing, Escape, UserData}
@@ -205,8 +205,9 @@ data-kept c code n d s g e =
     let a = no-escape c g (rw e) in
     search)
     (λ _.
-    let m = define-count (c .users) code (c .held) d (g .count-16) in
-    let u = define-good (c .users) code (c .held) d (s .users-96) (g .count-16) (g .users-good) in
+    let r = room-96 (c .users .bytes) (s .users-96) in
+    let m = rw r at (define-most (c .users) code (c .held) (d % 16) (omega arith)) in
+    let u = define-good (c .users) code (c .held) (d % 16) (s .users-96) (g .count-16) (omega arith) (g .users-good) in
     search)
 
 -- 1Bh is no character, so it is no user code
@@ -215,7 +216,8 @@ pub escape-free : (c : Condition) → Sized c → Good c → isChar c 0x1B ≡ f
 unfolding isChar
 escape-free c s g e =
     at-absent 0x1B (c .users .count) (c .users .bytes)
-    (not-user (c .users) 0x1B (s .users-96) (g .count-16) (neither (isUser (c .users) 0x1B) _ e .0))
+    (not-user (c .users) 0x1B (omega (arith, room-96 (c .users .bytes) (s .users-96), g .count-16))
+    (neither (isUser (c .users) 0x1B) _ e .0))
 
 pub commands-kept : (c : Condition) (b : ℕ) → Sized c → b < 256 → Good c → Commands Good c b
 unfolding positionOf

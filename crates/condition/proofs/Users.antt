@@ -11,7 +11,7 @@ use borrow.Author.Tests.{ltb-true, eqb-false, not-true, lt-ltb, ne-eqb}
 use Rattle.laws.proofs.Tests.{both}
 use Rattle.users.specs.declared.Users.{Users}
 use Rattle.users.specs.Users.{defineOf}
-use Rattle.users.proofs.Places.{Places, define-places}
+use Rattle.users.proofs.Places.{Places, room-96, define-places}
 use Rattle.condition.specs.Condition.{absent, usersGood}
 use Rattle.condition.proofs.Ranges.{up-to-at, at-up-to}
 
@@ -45,7 +45,7 @@ at-absent x (suc n) l h =
 
 -- one place more, before the others
 more : (n : ℕ) (l : List ℕ) → getD l 5 0 < 16
-    → ((i : ℕ) → i < n → getD (drop 6 l) (i * 6) 0 ≡ getD l 0 0 → ⊥) → Places n (drop 6 l) → Places (suc n) l
+    → ((i : ℕ) → i < n → getD (drop 6 l) (i * 6) 0 ≡ getD l 0 0 → ⊥) → Places 16 n (drop 6 l) → Places 16 (suc n) l
 more n l f a p = record { fifth = fifth; apart = apart; rest = rest }
   where
     fifth : (i : ℕ) → i < suc n → getD l (i * 6 + 5) 0 < 16
@@ -62,7 +62,7 @@ more n l f a p = record { fifth = fifth; apart = apart; rest = rest }
     rest i h = sym (after l (i - 6) i (omega arith)) ∙ p .rest (i - 6) (omega arith)
 
 -- user codes distinct, each fifth byte below 16, the other places 0
-pub places : (n : ℕ) (l : List ℕ) → usersGood n l ≡ true → Places n l
+pub places : (n : ℕ) (l : List ℕ) → usersGood n l ≡ true → Places 16 n l
 unfolding usersGood
 places zero l e =
     record { fifth = λ i h. omega arith; apart = λ i j h _ _. omega arith; rest = λ i h. omega (arith, up-to-at 0 l e i) }
@@ -71,7 +71,7 @@ places (suc n) l e =
     let q = both (absent (getD l 0 0) n (drop 6 l)) (usersGood n (drop 6 l)) (p .1) in
     more n l (ltb-true (getD l 5 0) 16 (p .0)) (absent-at (getD l 0 0) n (drop 6 l) (q .0)) (places n (drop 6 l) (q .1))
 
-pub users-formed : (n : ℕ) (l : List ℕ) → Places n l → usersGood n l ≡ true
+pub users-formed : (n : ℕ) (l : List ℕ) → Places 16 n l → usersGood n l ≡ true
 unfolding usersGood
 users-formed zero l p = at-up-to 0 l (λ i. omega (arith, p .rest i (omega arith)))
 users-formed (suc n) l p =
@@ -91,8 +91,9 @@ users-formed (suc n) l p =
 
 -- a user character that is defined keeps them so
 pub define-good : (u : Users) (code : ℕ) (held : List ℕ) (last : ℕ) → length (u .bytes) ≡ 96
-    → u .count ≤ 16 → usersGood (u .count) (u .bytes) ≡ true
+    → u .count ≤ 16 → last < 16 → usersGood (u .count) (u .bytes) ≡ true
     → usersGood (defineOf u code held last .count) (defineOf u code held last .bytes) ≡ true
-define-good u code held last h l e =
+define-good u code held last h l low e =
+    let r = room-96 (u .bytes) h in
     users-formed (defineOf u code held last .count) (defineOf u code held last .bytes)
-    (define-places u code held last h l (places (u .count) (u .bytes) e))
+    (define-places 16 u code (omega arith) (places (u .count) (u .bytes) e) held last (omega arith) low)

@@ -1,5 +1,5 @@
 -- What a byte does (document 01; source 000, section 6.1).
-use Prim.Native.Nat.{ℕ, _+_, _-_, _/_}
+use Prim.Native.Nat.{ℕ, _+_, _-_, _/_, _%_}
 use mathlib.Core.List.{List, [], _∷_}
 use mathlib.Core.Bool.{Bool, true, false, cond, _&&_, _||_}
 use lib.ListN.{set, replicate}
@@ -132,12 +132,12 @@ luminanceOf c n = withLuminance (withPending c Nothing) (n / 64)
 abbrev pub speedOf : Condition → ℕ → Condition
 speedOf c n = withSpeed (withPending c Nothing) n
 
--- 43h code d1..d5: d1 to d4 are held, with d5 the user character is defined
+-- 43h code d1..d5: d1 to d4 are held, with d5 the user character is defined; the top four bits of d5 are dropped
 unfoldable pub dataOf : Condition → ℕ → ℕ → ℕ → Condition
 dataOf c code n d =
     cond (ltb n 4)
     (withPending (withHeld c (set (c .held) n d)) (UserData code (n + 1)))
-    (withPending (withHeld (withUsers c (defineOf (c .users) code (c .held) d)) (replicate 4 0)) Nothing)
+    (withPending (withHeld (withUsers c (defineOf (c .users) code (c .held) (d % 16))) (replicate 4 0)) Nothing)
 
 -- A byte that continues a half-received command is always its parameter. Otherwise a user code is written as a character.
 unfoldable pub stepAt : Pending → Condition → ℕ → Condition

@@ -4,7 +4,7 @@ use mathlib.Core.Path.{_≡_, refl, ap, sym, _∙_, subst}
 use mathlib.Core.List.{List, [], _∷_, _++_, append-assoc}
 use native.Mathlib.Omega.{arith}
 use lib.Dec.{eqb}
-use borrow.Author.Tests.{eq-eqb}
+use borrow.Author.Tests.{le-ltb}
 use lib.ListN.{length, getD, take, drop, set, replicate}
 use lib.Seq.{take-at, drop-at}
 use Rattle.row.specs.Row.{onPicture, laid}
@@ -275,9 +275,9 @@ pub define-by : (s x : List ℕ) (n code last : ℕ) → 200 ≤ length s → le
     → conditionIn (set (spliced 104 96 s x) 20 n) ≡ definedIn (conditionIn s) code last
 unfolding defineIn
 define-by s x n code last h hx hl e =
-    let l = part-length 104 96 s (omega arith) in
+    let l : 6 ≤ length (take 96 (drop 104 s)) = omega (arith, part-length 104 96 s (omega arith)) in
     count-in (spliced 104 96 s x) n hl ∙ ap (λ (k : Condition). withCount k n) (users-in s x h hx)
-    ∙ ap (withUsers (conditionIn s)) (e ∙ rw (eq-eqb _ 96 l, users-at s, held-in s h))
+    ∙ ap (withUsers (conditionIn s)) (e ∙ rw (le-ltb _ 6 l, users-at s, held-in s h))
 
 -- bytes 3 to 20 at power-up for a font
 abbrev freshHead : ℕ → List ℕ

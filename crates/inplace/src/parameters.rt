@@ -92,7 +92,7 @@ fn position(s: &mut [u8], p: u8)
     }
 }
 
-// 43h code d1..d5: one of the five.
+// 43h code d1..d5: one of the five. The top four bits of d5 are dropped.
 fn user_data(s: &mut [u8], code: u8, n: u8, d: u8)
     requires { ⌜ 200 ≤ length (now s) ⌝ }
     ensures { λ _. ⌜ conditionIn (now (s .exit)) ≡ dataOf (conditionIn (now (s .entry))) code n d ⌝ }
@@ -102,7 +102,7 @@ fn user_data(s: &mut [u8], code: u8, n: u8, d: u8)
         set_pending(s, 6, code, n + 1);
         return;
     }
-    define(s, code, d);
+    define(s, code, d % 16);
     release(s);
     set_pending(s, 0, 0, 0);
 }

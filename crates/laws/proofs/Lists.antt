@@ -1,11 +1,11 @@
 -- Parts of lists, and stores one after the other.
-use mathlib.Core.Path.{_≡_, sym, ap, _∙_}
+use mathlib.Core.Path.{_≡_, refl, sym, ap, _∙_}
 use mathlib.Core.List.{List, [], _∷_, _++_}
 use Prim.Native.Nat.{ℕ, zero, suc, _+_, _-_, _≤_, _<_}
 use native.Mathlib.Nat.{add-zero}
 use native.Mathlib.Omega.{arith}
-use lib.ListN.{length, getD, take, drop, set, length-drop, take-append-drop}
-use lib.Seq.{sets, take-all, drop-drop, drop-cons, length-take-le}
+use lib.ListN.{length, getD, take, drop, set, length-drop, length-set, take-append-drop}
+use lib.Seq.{sets, take-all, drop-drop, drop-cons, length-take-le, getD-set-same, getD-set-other}
 
 -- the part of a list from a place on
 pub tail-part : (s : List ℕ) (at : ℕ) → take (length s - at) (drop at s) ≡ drop at s
@@ -36,3 +36,20 @@ pub sets-append : (l : List ℕ) (i : ℕ) (xs ys : List ℕ) → sets l i (xs +
 sets-append l i [] ys = ap (λ (k : ℕ). sets l k ys) (sym (add-zero i))
 sets-append l i (x ∷ xs) ys =
     sets-append (set l i x) (suc i) xs ys ∙ ap (λ (k : ℕ). sets (sets (set l i x) (suc i) xs) k ys) (omega arith)
+
+-- the stores of a list leave every other place as it is, and put the list there
+pub sets-else : (l : List ℕ) (at : ℕ) (xs : List ℕ) (i : ℕ) → ((j : ℕ) → j < length xs → i ≡ at + j → ⊥)
+    → getD (sets l at xs) i 0 ≡ getD l i 0
+sets-else l at [] i h = refl
+sets-else l at (x ∷ xs) i h =
+    let first : i ≡ at → ⊥ = λ e. h 0 (omega arith) (omega arith) in
+    sets-else (set l at x) (suc at) xs i (λ j m e. h (suc j) (omega arith) (omega arith)) ∙ getD-set-other l at i x 0 first
+
+pub sets-there : (l : List ℕ) (at : ℕ) (xs : List ℕ) (j : ℕ) → at + length xs ≤ length l → j < length xs
+    → getD (sets l at xs) (at + j) 0 ≡ getD xs j 0
+sets-there l at [] j h m = absurd (omega arith)
+sets-there l at (x ∷ xs) zero h m =
+    rw (add-zero at) (sets-else (set l at x) (suc at) xs at (λ j _ e. omega arith) ∙ getD-set-same l at x 0 (omega arith))
+sets-there l at (x ∷ xs) (suc j) h m =
+    let e : at + suc j ≡ suc at + j = omega arith in
+    rw e (sets-there (set l at x) (suc at) xs j (rw (length-set l at x) (omega arith)) (omega arith))

@@ -1,42 +1,47 @@
--- Places of six bytes: where a code stands, what a put changes, and sizes.
-use Prim.Native.Nat.{ℕ, zero, suc, _+_, _-_, _*_, _/_, _%_, _<_, _≤_}
+-- Places of six bytes: where a code stands, what a put changes, what a place taken out leaves, and sizes.
+use Prim.Native.Nat.{ℕ, zero, suc, _+_, _-_, _*_, _/_, _<_, _≤_}
 use mathlib.Core.Path.{_≡_, refl, sym, ap, _∙_}
 use mathlib.Core.List.{List}
 use mathlib.Core.Bool.{false}
 use native.Mathlib.Omega.{arith}
 use native.Mathlib.Nat.{add-zero}
-use lib.ListN.{length, getD, drop, length-drop, length-set, List·getD-append, List·getD-eq-default}
-use lib.Seq.{getD-set-same, getD-set-other, lt-length-set, getD-drop}
-use lib.Dec.{eqb, ltb}
-use borrow.Author.Tests.{eqb-true, eqb-false, ltb-true, ltb-false}
-use Rattle.laws.proofs.Tests.{by-test, by-equal}
-use Rattle.row.specs.Row.{advanced}
-use Rattle.row.proofs.Laws.{advanced-length}
+use lib.ListN.{length, getD}
+use lib.Seq.{length-sets}
+use lib.Dec.{eqb, leb}
+use borrow.Author.Tests.{eqb-true, eqb-false, leb-true, leb-false}
+use Rattle.laws.proofs.Tests.{by-cases, by-test, by-equal}
+use Rattle.laws.proofs.Lists.{sets-else, sets-there}
+use Rattle.row.specs.Row.{removed}
+use Rattle.row.proofs.Laws.{removed-length, before-gap, after-gap}
 use Rattle.users.specs.declared.Users.{Users}
 use Rattle.users.specs.declared.Found.{Found}
 use Rattle.users.specs.declared.Found.the-variants.{Missing, At}
-use Rattle.users.specs.Users.{placeOf, limitOf, foundIn, foundOf, isFound, isUser, putOf, definedAt, defineOf}
-use Rattle.users.proofs.Laws.{place-below}
+use Rattle.users.specs.Users.{placeOf, roomOf, limitOf, foundIn, foundOf, isFound, isUser, sixOf, putOf}
+use Rattle.users.specs.Users.{inRoom, leavingOf, without, withYoungest, defineOf}
+use Rattle.users.proofs.Laws.{found-below, by-leaving}
 
 -- Sizes ------------------------------------------------------------------------------------------------------------------------
 
 pub put-length : (us : List ℕ) (at code : ℕ) (held : List ℕ) (last : ℕ) → length (putOf us at code held last) ≡ length us
 unfolding putOf
-put-length us at code held last = simp length-set
+put-length us at code held last = length-sets us at (sixOf code held last)
 
-defined-96 : (f : Found) (u : Users) (code : ℕ) (held : List ℕ) (last : ℕ)
-    → length (u .bytes) ≡ 96 → length (definedAt f u code held last .bytes) ≡ 96
-unfolding definedAt
-defined-96 (At k) u code held last h = put-length (u .bytes) (k * 6) code held last ∙ h
-defined-96 Missing u code held last h =
-    by-test (λ (v : Users). length (v .bytes) ≡ 96) (ltb (u .count) 16)
-    (λ _. put-length (u .bytes) (u .count * 6) code held last ∙ h)
-    (λ _. put-length (advanced 6 (u .bytes)) 90 code held last ∙ advanced-length 6 (u .bytes) (omega arith) ∙ h)
+without-length : (f : Found) (u : Users) → length (without f u .bytes) ≡ length (u .bytes)
+unfolding without
+without-length Missing u = refl
+without-length (At k) u = removed-length (k * 6) 6 (u .bytes)
 
-pub define-96 : (u : Users) (code : ℕ) (held : List ℕ) (last : ℕ)
-    → length (u .bytes) ≡ 96 → length (defineOf u code held last .bytes) ≡ 96
-unfolding defineOf
-define-96 u code held last h = defined-96 (foundOf u code) u code held (last % 16) h
+pub define-length : (u : Users) (code : ℕ) (held : List ℕ) (last : ℕ)
+    → length (defineOf u code held last .bytes) ≡ length (u .bytes)
+unfolding defineOf withYoungest
+define-length u code held last =
+    let v : Users = without (leavingOf u code) (inRoom u) in
+    put-length (v .bytes) (v .count * 6) code held last ∙ without-length (leavingOf u code) (inRoom u)
+
+-- 96 bytes have room for 16
+pub room-96 : (us : List ℕ) → length us ≡ 96 → roomOf us ≡ 16
+unfolding roomOf
+room-96 us h = let m : length us / 6 ≡ 16 = ap (λ (n : ℕ). n / 6) h in omega arith
 
 -- Where the lookup finds a code ---------------------------------------------------------------------------------------------
 
@@ -58,18 +63,17 @@ place-misses us code (suc n) k i e h l f =
     place-misses us code n (k + 1) i m (omega arith) (omega arith) f)
     e
 
--- Up to 16 of them in 96 bytes ----------------------------------------------------------------------------------------------
+-- As many as there is room for ------------------------------------------------------------------------------------------------
 
-module _ (us : List ℕ) (count : ℕ) (h : length us ≡ 96) (l : count ≤ 16) where
+module _ (us : List ℕ) (count : ℕ) (l : count ≤ roomOf us) where
   pub limit-count : limitOf us count ≡ count
   unfolding limitOf
-  limit-count = let m : length us / 6 ≡ 16 = ap (λ (n : ℕ). n / 6) h in omega arith
+  limit-count = omega arith
 
   pub found-holds : (code j : ℕ) → foundIn us count code ≡ At j → (j < count) × (getD us (j * 6) 0 ≡ code)
   unfolding foundIn
   found-holds code j e =
-      let m : j < 0 + limitOf us count = place-below us code (limitOf us count) 0 j e in
-      (omega (arith, limit-count), place-holds us code (limitOf us count) 0 j e)
+      (omega (arith, found-below us count code j e, limit-count), place-holds us code (limitOf us count) 0 j e)
 
   pub found-misses : (code : ℕ) → foundIn us count code ≡ Missing → (i : ℕ) → i < count → getD us (i * 6) 0 ≡ code → ⊥
   unfolding foundIn
@@ -78,149 +82,132 @@ module _ (us : List ℕ) (count : ℕ) (h : length us ≡ 96) (l : count ≤ 16)
 -- What a put leaves and what it writes --------------------------------------------------------------------------------------
 
 module _ (us : List ℕ) (at code : ℕ) (held : List ℕ) (last : ℕ) where
-  pub put-other : (i : ℕ) → ((j : ℕ) → j < 6 → i ≡ at + j → ⊥) → getD (putOf us at code held last) i 0 ≡ getD us i 0
+  pub put-else : (i : ℕ) → ((j : ℕ) → j < 6 → i ≡ at + j → ⊥) → getD (putOf us at code held last) i 0 ≡ getD us i 0
   unfolding putOf
-  put-other i h =
-      let h₀ : i ≡ at → ⊥ = λ e. h 0 (omega arith) (omega arith) in
-      let h₁ : i ≡ at + 1 → ⊥ = h 1 (omega arith) in
-      let h₂ : i ≡ at + 2 → ⊥ = h 2 (omega arith) in
-      let h₃ : i ≡ at + 3 → ⊥ = h 3 (omega arith) in
-      let h₄ : i ≡ at + 4 → ⊥ = h 4 (omega arith) in
-      let h₅ : i ≡ at + 5 → ⊥ = h 5 (omega arith) in
-      simp getD-set-other
+  put-else = sets-else us at (sixOf code held last)
 
-  pub put-code : at < length us → getD (putOf us at code held last) at 0 ≡ code
+  pub put-there : (j : ℕ) → at + 6 ≤ length us → j < 6
+      → getD (putOf us at code held last) (at + j) 0 ≡ getD (sixOf code held last) j 0
   unfolding putOf
-  put-code l =
-      let h₁ : at ≡ at + 1 → ⊥ = omega arith in
-      let h₂ : at ≡ at + 2 → ⊥ = omega arith in
-      let h₃ : at ≡ at + 3 → ⊥ = omega arith in
-      let h₄ : at ≡ at + 4 → ⊥ = omega arith in
-      let h₅ : at ≡ at + 5 → ⊥ = omega arith in
-      simp (getD-set-other, getD-set-same)
+  put-there = sets-there us at (sixOf code held last)
 
-  pub put-fifth : at + 5 < length us → getD (putOf us at code held last) (at + 5) 0 ≡ last
-  unfolding putOf
-  put-fifth l = search (getD-set-same, lt-length-set) depth 9
+-- What is left when the place k is taken out ------------------------------------------------------------------------------------
 
--- Well-formed places: each fifth byte below 16, codes distinct, the rest 0 ------------------------------------------------------
+-- the place that comes to the place i: itself before k, from there on the next one
+abbrev pub came : ℕ → ℕ → ℕ
+came k i = i + (1 - (k - i))
 
-pub record Places (n : ℕ) (l : List ℕ) : Type 0 where
-  pub fifth : (i : ℕ) → i < n → getD l (i * 6 + 5) 0 < 16
+module _ (us : List ℕ) (k : ℕ) (h : k * 6 + 6 ≤ length us) where
+  pub left-at : (i j : ℕ) → j < 6 → getD (removed (k * 6) 6 us) (i * 6 + j) 0 ≡ getD us (came k i * 6 + j) 0
+  left-at i j l =
+      by-cases (leb k i)
+      (λ t. let m = leb-true k i t in
+      let e : i * 6 + j + 6 ≡ came k i * 6 + j = omega arith in
+      after-gap us (k * 6) 6 h (i * 6 + j) (omega arith) ∙ ap (λ (n : ℕ). getD us n 0) e)
+      (λ t. let m = leb-false k i t in
+      let e : i * 6 + j ≡ came k i * 6 + j = omega arith in
+      before-gap us (k * 6) 6 h (i * 6 + j) (omega arith) ∙ ap (λ (n : ℕ). getD us n 0) e)
+
+  pub code-left : (i : ℕ) → getD (removed (k * 6) 6 us) (i * 6) 0 ≡ getD us (came k i * 6) 0
+  code-left i = simp add-zero at (left-at i 0 (omega arith))
+
+-- Well-formed places: each fifth byte below a bound, codes distinct, the rest 0 ---------------------------------------------------
+
+pub record Places (bound n : ℕ) (l : List ℕ) : Type 0 where
+  pub fifth : (i : ℕ) → i < n → getD l (i * 6 + 5) 0 < bound
   pub apart : (i j : ℕ) → i < n → j < n → getD l (i * 6) 0 ≡ getD l (j * 6) 0 → i ≡ j
   pub rest : (i : ℕ) → n * 6 ≤ i → getD l i 0 ≡ 0
 
--- the same of all places but k, where none of them holds the code
-record Others (n k code : ℕ) (l : List ℕ) : Type 0 where
-  fifth : (i : ℕ) → i < n → (i ≡ k → ⊥) → getD l (i * 6 + 5) 0 < 16
-  apart : (i j : ℕ) → i < n → j < n → (i ≡ k → ⊥) → (j ≡ k → ⊥) → getD l (i * 6) 0 ≡ getD l (j * 6) 0 → i ≡ j
-  new : (i : ℕ) → i < n → (i ≡ k → ⊥) → getD l (i * 6) 0 ≡ code → ⊥
-  rest : (i : ℕ) → n * 6 ≤ i → getD l i 0 ≡ 0
+-- a code that stands in none of the places
+abbrev New : ℕ → ℕ → List ℕ → Type 0
+New code n l = (i : ℕ) → i < n → getD l (i * 6) 0 ≡ code → ⊥
 
--- then the code put at k, with a fifth byte below 16, makes all of them well formed
-module _ (n k code : ℕ) (l held : List ℕ) (last : ℕ) (o : Others n k code l) (in-k : k < n) (in-l : n * 6 ≤ length l)
-    (low : last < 16) where
-  code-there : (i : ℕ) → i ≡ k → getD (putOf l (k * 6) code held last) (i * 6) 0 ≡ code
-  code-there i h = rw h (put-code l (k * 6) code held last (omega arith))
+-- one place taken out
+without-places : (bound n k : ℕ) (l : List ℕ) → Places bound n l → k < n → n * 6 ≤ length l
+    → Places bound (n - 1) (removed (k * 6) 6 l)
+without-places bound n k l p h m =
+    record {
+      fifth = λ i g. rw (left-at l k (omega arith) i 5 (omega arith)) (p .fifth (came k i) (omega arith));
+      apart =
+          λ i j g f e.
+          let same = sym (code-left l k (omega arith) i) ∙ e ∙ code-left l k (omega arith) j in
+          omega (arith, p .apart (came k i) (came k j) (omega arith) (omega arith) same);
+      rest = λ i g. after-gap l (k * 6) 6 (omega arith) i (omega arith) ∙ p .rest (i + 6) (omega arith);
+    }
 
-  code-else : (i : ℕ) → (i ≡ k → ⊥) → getD (putOf l (k * 6) code held last) (i * 6) 0 ≡ getD l (i * 6) 0
-  code-else i h = put-other l (k * 6) code held last (i * 6) (λ j m e. omega arith)
+-- a new code put last
+module _ (bound n code : ℕ) (l held : List ℕ) (last : ℕ) (p : Places bound n l) (new : New code n l) (in-l : n * 6 + 6 ≤ length l)
+    (low : last < bound) where
+  code-there : getD (putOf l (n * 6) code held last) (n * 6) 0 ≡ code
+  code-there = simp add-zero at (put-there l (n * 6) code held last 0 in-l (omega arith))
 
-  put-places : Places n (putOf l (k * 6) code held last)
+  code-else : (i : ℕ) → i < n → getD (putOf l (n * 6) code held last) (i * 6) 0 ≡ getD l (i * 6) 0
+  code-else i h = put-else l (n * 6) code held last (i * 6) (λ j m e. omega arith)
+
+  put-places : Places bound (n + 1) (putOf l (n * 6) code held last)
   put-places =
       record {
         fifth =
-            λ i h. by-equal i k (λ e. rw (e, put-fifth l (k * 6) code held last (omega arith)) low)
-            (λ d. rw (put-other l (k * 6) code held last (i * 6 + 5) (λ j m e. omega arith)) (o .fifth i h d));
+            λ i h. by-equal i n (λ e. rw (e, put-there l (n * 6) code held last 5 in-l (omega arith)) low)
+            (λ d. rw (put-else l (n * 6) code held last (i * 6 + 5) (λ j m e. omega arith)) (p .fifth i (omega arith)));
         apart =
-            λ i j h m e. by-equal i k
-            (λ y. by-equal j k (λ z. omega arith) (λ z. absurd (o .new j m z (sym (code-else j z) ∙ sym e ∙ code-there i y))))
-            (λ y. by-equal j k (λ z. absurd (o .new i h y (sym (code-else i y) ∙ e ∙ code-there j z)))
-            (λ z. o .apart i j h m y z (sym (code-else i y) ∙ e ∙ code-else j z)));
-        rest = λ i h. put-other l (k * 6) code held last i (λ j m e. omega arith) ∙ o .rest i h;
+            λ i j h m e. by-equal i n
+            (λ y. by-equal j n (λ z. omega arith)
+            (λ z. absurd (new j (omega arith) (sym (code-else j (omega arith)) ∙ sym e ∙ rw y code-there))))
+            (λ y. by-equal j n (λ z. absurd (new i (omega arith) (sym (code-else i (omega arith)) ∙ e ∙ rw z code-there)))
+            (λ z. p .apart i j (omega arith) (omega arith)
+            (sym (code-else i (omega arith)) ∙ e ∙ code-else j (omega arith))));
+        rest = λ i h. put-else l (n * 6) code held last i (λ j m e. omega arith) ∙ p .rest i (omega arith);
       }
-
--- the oldest goes: each place takes what stands in the next one
-pub advanced-at : (us : List ℕ) (i j : ℕ) → length us ≡ 96 → i < 15 → j < 6
-    → getD (advanced 6 us) (i * 6 + j) 0 ≡ getD us ((i + 1) * 6 + j) 0
-unfolding advanced
-advanced-at us i j h l k =
-    let m : i * 6 + j < length (drop 6 us) = simp length-drop (omega arith) in
-    let e : 6 + (i * 6 + j) ≡ (i + 1) * 6 + j = omega arith in
-    List·getD-append (drop 6 us) (drop (length us - 6) us) 0 (i * 6 + j) m ∙ getD-drop 6 us (i * 6 + j) 0
-    ∙ ap (λ (n : ℕ). getD us n 0) e
 
 -- A user character that is defined keeps the places well formed -----------------------------------------------------------------
 
-module _ (u : Users) (code : ℕ) (held : List ℕ) (last : ℕ) (h : length (u .bytes) ≡ 96) (l : u .count ≤ 16)
-    (p : Places (u .count) (u .bytes)) where
-  full : ltb (u .count) 16 ≡ false → u .count ≡ 16
-  full t = omega (arith, ltb-false (u .count) 16 t)
+-- places ready for a code: well formed, none of them with the code, and room for one more
+record Made (bound code : ℕ) (u : Users) : Type 0 where
+  places : Places bound (u .count) (u .bytes)
+  new : New code (u .count) (u .bytes)
+  fits : u .count * 6 + 6 ≤ length (u .bytes)
 
-  older : (i : ℕ) → i < 15 → getD (advanced 6 (u .bytes)) (i * 6) 0 ≡ getD (u .bytes) ((i + 1) * 6) 0
-  older i m = simp add-zero at (advanced-at (u .bytes) i 0 h m (omega arith))
+module _ (bound : ℕ) (u : Users) (code : ℕ) (l : u .count ≤ roomOf (u .bytes)) (p : Places bound (u .count) (u .bytes)) where
+  -- the place k is taken out, and no other has the code
+  made-at : (k : ℕ) → k < u .count → ((i : ℕ) → i < u .count → getD (u .bytes) (i * 6) 0 ≡ code → i ≡ k)
+      → Made bound code (without (At k) u)
+  unfolding without roomOf
+  made-at k h only =
+      record {
+        places = without-places bound (u .count) k (u .bytes) p h (omega arith);
+        new = λ i m y. omega (arith, only (came k i) (omega arith) (sym (code-left (u .bytes) k (omega arith) i) ∙ y));
+        fits = rw (removed-length (k * 6) 6 (u .bytes)) (omega arith);
+      }
 
-  defined-places : (f : Found) → foundOf u code ≡ f
-      → Places (definedAt f u code held (last % 16) .count) (definedAt f u code held (last % 16) .bytes)
-  unfolding definedAt
-  defined-places (At k) e =
-      let f = found-holds (u .bytes) (u .count) h l code k e in
-      put-places (u .count) k code (u .bytes) held (last % 16)
-      (record {
-        fifth = λ i m d. p .fifth i m;
-        apart = λ i j m n _ _. p .apart i j m n;
-        new = λ i m d y. d (p .apart i k m (f .0) (y ∙ sym (f .1)));
-        rest = p .rest;
-      })
-      (f .0)
-      (omega arith)
-      (omega arith)
-  defined-places Missing e =
-      let f = found-misses (u .bytes) (u .count) h l code e in
-      by-test (λ (v : Users). Places (v .count) (v .bytes)) (ltb (u .count) 16)
-      (λ t. put-places (u .count + 1) (u .count) code (u .bytes) held (last % 16)
-      (record {
-        fifth = λ i m d. p .fifth i (omega arith);
-        apart = λ i j m n y z. p .apart i j (omega arith) (omega arith);
-        new = λ i m d. f i (omega arith);
-        rest = λ i m. p .rest i (omega arith);
-      })
-      (omega arith)
-      (omega (arith, ltb-true (u .count) 16 t))
-      (omega arith))
-      (λ t. rw (full t) (put-places 16 15 code (advanced 6 (u .bytes)) held (last % 16)
-      (record {
-        fifth = λ i m d. rw (advanced-at (u .bytes) i 5 h (omega arith) (omega arith)) (p .fifth (i + 1) (omega (arith, full t)));
-        apart =
-            λ i j m n y z e.
-            let same : getD (u .bytes) ((i + 1) * 6) 0 ≡ getD (u .bytes) ((j + 1) * 6) 0 =
-            sym (older i (omega arith)) ∙ e ∙ older j (omega arith) in
-            omega (arith, p .apart (i + 1) (j + 1) (omega (arith, full t)) (omega (arith, full t)) same);
-        new = λ i m d y. f (i + 1) (omega (arith, full t)) (sym (older i (omega arith)) ∙ y);
-        rest =
-            λ i m. List·getD-eq-default (advanced 6 (u .bytes)) 0 (rw (advanced-length 6 (u .bytes) (omega arith)) (omega arith));
-      })
-      (omega arith)
-      (rw (advanced-length 6 (u .bytes) (omega arith)) (omega arith))
-      (omega arith)))
+  made : 0 < roomOf (u .bytes) → Made bound code (without (leavingOf u code) (inRoom u))
+  unfolding without roomOf
+  made r =
+      rw (limit-count (u .bytes) (u .count) l) (by-leaving u (λ (f : Found). Made bound code (without f u)) (foundOf u code)
+      (λ k e. let f = found-holds (u .bytes) (u .count) l code k e in
+      made-at k (f .0) (λ i m y. p .apart i k m (f .0) (y ∙ sym (f .1))))
+      (λ e m. record { places = p; new = found-misses (u .bytes) (u .count) l code e; fits = omega arith })
+      (λ e m. made-at 0 (omega arith) (λ i n y. absurd (found-misses (u .bytes) (u .count) l code e i n y))))
 
-  pub define-places : Places (defineOf u code held last .count) (defineOf u code held last .bytes)
-  unfolding defineOf
-  define-places = defined-places (foundOf u code) refl
+  pub define-places : (held : List ℕ) (last : ℕ) → 0 < roomOf (u .bytes) → last < bound
+      → Places bound (defineOf u code held last .count) (defineOf u code held last .bytes)
+  unfolding defineOf withYoungest
+  define-places held last r low =
+      let m = made r in
+      put-places bound _ code _ held last (m .places) (m .new) (m .fits) low
 
-pub define-count : (u : Users) (code : ℕ) (held : List ℕ) (last : ℕ) → u .count ≤ 16 → defineOf u code held last .count ≤ 16
-unfolding defineOf definedAt
-define-count u code held last l = go (foundOf u code)
-  where
-    go : (f : Found) → definedAt f u code held (last % 16) .count ≤ 16
-    go (At k) = l
-    go Missing = by-test (λ (v : Users). v .count ≤ 16) (ltb (u .count) 16) (λ t. omega (arith, ltb-true (u .count) 16 t)) (λ _. l)
+pub define-most : (u : Users) (code : ℕ) (held : List ℕ) (last : ℕ) → 0 < roomOf (u .bytes)
+    → defineOf u code held last .count ≤ roomOf (u .bytes)
+unfolding defineOf withYoungest without limitOf
+define-most u code held last r =
+    by-leaving (inRoom u) (λ (f : Found). without f (inRoom u) .count + 1 ≤ roomOf (u .bytes)) (foundOf u code)
+    (λ k e. omega (arith, found-below (u .bytes) (u .count) code k e)) (λ _ m. omega arith) (λ _ m. omega arith)
 
 -- a code on which no user character sits stands in no place
-pub not-user : (u : Users) (code : ℕ) → length (u .bytes) ≡ 96 → u .count ≤ 16 → isUser u code ≡ false
+pub not-user : (u : Users) (code : ℕ) → u .count ≤ roomOf (u .bytes) → isUser u code ≡ false
     → (i : ℕ) → i < u .count → getD (u .bytes) (i * 6) 0 ≡ code → ⊥
 unfolding isUser
-not-user u code h l e = found-misses (u .bytes) (u .count) h l code (missing (foundOf u code) e)
+not-user u code l e = found-misses (u .bytes) (u .count) l code (missing (foundOf u code) e)
   where
     missing : (f : Found) → isFound f ≡ false → f ≡ Missing
     missing Missing d = refl

@@ -1,10 +1,11 @@
 -- User characters (document 01, The condition): up to 16, code and five bytes, oldest first, in places of six bytes.
-use Prim.Native.Nat.{ℕ, zero, suc, _+_, _*_, _/_, _%_, min}
-use mathlib.Core.List.{List}
+use Prim.Native.Nat.{ℕ, zero, suc, _+_, _-_, _*_, _/_, min}
+use mathlib.Core.List.{List, [], _∷_}
 use mathlib.Core.Bool.{Bool, true, false, cond}
-use lib.ListN.{length, getD, set}
+use lib.ListN.{length, getD}
+use lib.Seq.{sets}
 use lib.Dec.{eqb, ltb, leb}
-use Rattle.row.specs.Row.{advanced}
+use Rattle.row.specs.Row.{removed}
 use Rattle.users.specs.declared.Users.{Users}
 use Rattle.dots.specs.declared.Character.{Character}
 use Rattle.users.specs.declared.Found.{Found}
@@ -15,9 +16,13 @@ abbrev pub placeOf : List ℕ → ℕ → ℕ → ℕ → Found
 placeOf us code zero k = Missing
 placeOf us code (suc n) k = cond (eqb (getD us (k * 6) 0) code) (At k) (placeOf us code n (k + 1))
 
--- as many places as are in use, and no more than there are bytes for
+-- how many places the bytes have room for, and no more than a byte counts
+unfoldable pub roomOf : List ℕ → ℕ
+roomOf us = min 255 (length us / 6)
+
+-- as many places as are in use, and no more than there is room for
 unfoldable pub limitOf : List ℕ → ℕ → ℕ
-limitOf us count = min count (length us / 6)
+limitOf us count = min count (roomOf us)
 
 -- the lookup of a code
 unfoldable pub foundIn : List ℕ → ℕ → ℕ → Found
@@ -49,36 +54,50 @@ characterAt us k =
       d5 = getD us (k * 6 + 5) 0;
     })
 
--- a character's six bytes from `at` on
+-- the six bytes of a place: its code and its five bytes
+abbrev pub placeAt : List ℕ → ℕ → List ℕ
+placeAt us k =
+    getD us (k * 6) 0 ∷ getD us (k * 6 + 1) 0 ∷ getD us (k * 6 + 2) 0 ∷ getD us (k * 6 + 3) 0 ∷ getD us (k * 6 + 4) 0
+    ∷ getD us (k * 6 + 5) 0 ∷ []
+
+-- a code and its five bytes, four of them held
+abbrev pub sixOf : ℕ → List ℕ → ℕ → List ℕ
+sixOf code held last = code ∷ getD held 0 0 ∷ getD held 1 0 ∷ getD held 2 0 ∷ getD held 3 0 ∷ last ∷ []
+
+-- these six from `at` on
 unfoldable pub putOf : List ℕ → ℕ → ℕ → List ℕ → ℕ → List ℕ
-putOf us at code held last =
-    set
-    (set
-    (set
-    (set (set (set us at code) (at + 1) (getD held 0 0)) (at + 2) (getD held 1 0))
-    (at + 3)
-    (getD held 2 0))
-    (at + 4)
-    (getD held 3 0))
-    (at + 5)
-    last
-
--- 43h code d1..d5 (01): a code already defined keeps its age; a new one is youngest; with 16 held the oldest goes
-unfoldable pub definedAt : Found → Users → ℕ → List ℕ → ℕ → Users
-definedAt (At k) u code held last = record { bytes = putOf (u .bytes) (k * 6) code held last; count = u .count }
-definedAt Missing u code held last =
-    cond (ltb (u .count) 16)
-    (record { bytes = putOf (u .bytes) (u .count * 6) code held last; count = u .count + 1 })
-    (record { bytes = putOf (advanced 6 (u .bytes)) 90 code held last; count = u .count })
-
--- the same (01): the top four bits of d5 are dropped
-unfoldable pub defineOf : Users → ℕ → List ℕ → ℕ → Users
-defineOf u code held last = definedAt (foundOf u code) u code held (last % 16)
+putOf us at code held last = sets us at (sixOf code held last)
 
 abbrev pub usersIn : List ℕ → ℕ → Users
 usersIn us count = record { bytes = us; count = count }
 
--- the same on lent bytes; bytes that are not 96 stay as they are
+-- no more in use than there is room for
+abbrev pub inRoom : Users → Users
+inRoom u = usersIn (u .bytes) (limitOf (u .bytes) (u .count))
+
+-- 43h code d1..d5 (01; 02, W3): one place is taken out, or none, and then the code comes last.
+-- The place that goes: the code's own; where it has none, with all places in use, the oldest
+abbrev pub leavingBy : Found → Users → Found
+leavingBy (At k) u = At k
+leavingBy Missing u = cond (ltb (u .count) (roomOf (u .bytes))) Missing (At 0)
+
+abbrev pub leavingOf : Users → ℕ → Found
+leavingOf u code = leavingBy (foundOf u code) (inRoom u)
+
+-- without that place: each later one moves down one, so that no gap is left, and the last is 0
+unfoldable pub without : Found → Users → Users
+without Missing u = u
+without (At k) u = usersIn (removed (k * 6) 6 (u .bytes)) (u .count - 1)
+
+-- the code with its five bytes comes last, the youngest
+unfoldable pub withYoungest : Users → ℕ → List ℕ → ℕ → Users
+withYoungest u code held last = usersIn (putOf (u .bytes) (u .count * 6) code held last) (u .count + 1)
+
+-- both
+unfoldable pub defineOf : Users → ℕ → List ℕ → ℕ → Users
+defineOf u code held last = withYoungest (without (leavingOf u code) (inRoom u)) code held last
+
+-- the same on lent bytes; bytes that have no room for a place stay as they are
 unfoldable pub defineIn : List ℕ → ℕ → ℕ → List ℕ → ℕ → Users
 defineIn us count code held last =
-    cond (eqb (length us) 96) (defineOf (usersIn us count) code held last) (usersIn us count)
+    cond (ltb (length us) 6) (usersIn us count) (defineOf (usersIn us count) code held last)

@@ -1,8 +1,8 @@
 // Up to 16 user characters in 96 bytes: a place is a code and five bytes, the oldest first.
 ghost use mathlib.Core.Path.{_≡_};
-ghost use Prim.Native.Nat.{_*_, _≤_};
+ghost use Prim.Native.Nat.{_+_, _*_, _≤_};
 ghost use lib.ListN.{length};
-ghost use Rattle.users.specs.Users.{limitOf, foundIn, isFound, characterAt, putOf, usersIn, defineIn};
+ghost use Rattle.users.specs.Users.{roomOf, limitOf, foundIn, isFound, characterAt, putOf, usersIn, leavingOf, defineIn};
 use dots::Character;
 
 pub struct Users {
@@ -17,9 +17,6 @@ impl Users {
     pub const PLACE: usize = 6;
 
     pub const BYTES: usize = 96;
-
-    // Where the last place begins.
-    const LAST: usize = 90;
 }
 
 // The lookup of a code: its place, counted from the oldest, or none.
@@ -28,13 +25,21 @@ pub enum Found {
     At(usize),
 }
 
-// As many places as are in use, and no more than there are bytes for.
+// How many places the bytes have room for, and no more than a byte counts.
+fn room(bytes: &[u8]) -> usize
+    ensures { λ r. ⌜ r ≡ roomOf (now (bytes .entry)) ⌝ }
+{
+    let places = bytes.len() / Users::PLACE;
+    if places < 255 { places } else { 255 }
+}
+
+// As many places as are in use, and no more than there is room for.
 fn limit(bytes: &[u8], count: u8) -> usize
     ensures { λ r. ⌜ (r ≡ limitOf (now (bytes .entry)) count) × (6 * r ≤ length (now (bytes .entry))) ⌝ }
 {
-    let room = bytes.len() / Users::PLACE;
+    let most = room(bytes);
     let n = count as usize;
-    if n < room { n } else { room }
+    if n < most { n } else { most }
 }
 
 // The place of a code among the first `count`.
@@ -86,7 +91,7 @@ pub fn character_at(bytes: &[u8], place: usize) -> Character
 
 // A character's six bytes from `at` on.
 fn put(bytes: &mut [u8], at: usize, code: u8, held: [u8; 4], last: u8)
-    requires { ⌜ (at ≤ 90) × (length (now bytes) ≡ 96) ⌝ }
+    requires { ⌜ at + 6 ≤ length (now bytes) ⌝ }
     ensures { λ _. ⌜ now (bytes .exit) ≡ putOf (now (bytes .entry)) at code held last ⌝ }
 {
     bytes[at] = code;
@@ -97,26 +102,34 @@ fn put(bytes: &mut [u8], at: usize, code: u8, held: [u8; 4], last: u8)
     bytes[at + 5] = last;
 }
 
-// A code with its five bytes, of which the top four bits of the fifth are dropped. It keeps its place, or comes last;
-// with 16 held the oldest goes. Answers how many are held then. Bytes that are not 96 stay as they are.
+// The place that goes when a code is defined: its own; where it has none, with all places in use, the oldest.
+fn leaving(bytes: &[u8], count: u8, code: u8) -> Found
+    ensures { λ r. ⌜ r ≡ leavingOf (usersIn (now (bytes .entry)) count) code ⌝ }
+{
+    if let Found::At(k) = find(bytes, count, code) {
+        return Found::At(k);
+    }
+    if limit(bytes, count) < room(bytes) {
+        Found::Missing
+    } else {
+        Found::At(0)
+    }
+}
+
+// A code with its five bytes comes last, the youngest. The place that it had is taken out, or, with all places in use, the
+// oldest; the others keep their order. Answers how many are held then. Bytes that have no room for a place stay as they are.
 pub fn define(bytes: &mut [u8], count: u8, code: u8, held: [u8; 4], last: u8) -> u8
     ensures { λ r. ⌜ usersIn (now (bytes .exit)) r ≡ defineIn (now (bytes .entry)) count code held last ⌝ }
 {
-    if bytes.len() != Users::BYTES {
+    if bytes.len() < Users::PLACE {
         return count;
     }
-    let low = last % 16;
-    let f = find(bytes, count, code);
-    if let Found::At(k) = f {
-        put(bytes, k * Users::PLACE, code, held, low);
-        return count;
+    let n = limit(bytes, count);
+    if let Found::At(k) = leaving(bytes, count, code) {
+        row::remove(bytes, k * Users::PLACE, Users::PLACE);
+        put(bytes, (n - 1) * Users::PLACE, code, held, last);
+        return n as u8;
     }
-    if count < Users::MOST {
-        let at = (count as usize) * Users::PLACE;
-        put(bytes, at, code, held, low);
-        return count + 1;
-    }
-    row::advance(bytes, Users::PLACE);
-    put(bytes, Users::LAST, code, held, low);
-    count
+    put(bytes, n * Users::PLACE, code, held, last);
+    (n + 1) as u8
 }

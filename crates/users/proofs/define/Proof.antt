@@ -1,107 +1,124 @@
-use Prim.Native.Nat.{_<_, _≤_}
-use mathlib.Core.Path.{sym, _∙_}
+use Prim.Native.Nat.{_+_, _-_}
+use mathlib.Core.Path.{_≡_, sym, ap, _∙_}
 use native.Mathlib.Omega.{arith}
-use Rattle.users.specs.Users.{defineIn, definedAt}
-use Rattle.users.specs.declared.Found.the-variants.{Missing}
-use Rattle.users.proofs.Laws.{found-below, defines}
-use borrow.Author.Tests.{ne-eqb, lt-ltb, le-ltb}
+use Rattle.users.specs.Users.{usersIn, without, withYoungest, defineIn}
+use Rattle.users.specs.declared.Found.{Found}
+use Rattle.users.specs.declared.Found.the-variants.{Missing, At}
+use Rattle.users.proofs.Laws.{Fits, leaving-fits, defines}
+use borrow.Author.Tests.{lt-ltb}
 use borrow.Author.Needs.{needs}
 use Rattle.users.proofs.define.Statement.{statement}
 use Rattle.users.proofs.define.Tie as tie
 
 returns : tie.Need-returns
 unfolding defineIn
-returns c = rw (ne-eqb _ _ (c .if1 .taken))
+returns c = rw (lt-ltb _ _ (c .if1 .taken))
 
-find-requires : tie.Need-find-requires
-find-requires c κs = search needs
+limit-requires : tie.Need-limit-requires
+limit-requires c κs = search needs
 
-enum-known-f : tie.Need-enum-known-f
-enum-known-f c = search needs
+leaving-requires : tie.Need-leaving-requires
+leaving-requires c κs = search needs
+
+enum-known-k : tie.Need-enum-known-k
+enum-known-k c = search needs
+
+-- the place that goes is in use; where none goes, there is room for one more
+fits : (l : tie.After-leaving) (f : Found) → l .leaving .result ≡ f
+    → Fits (l .before .before .before .before .before .before .args .bytes .now) (l .before .before .limit .result) f
+fits l f e = leaving-fits _ _ _ _ f (search needs) (l .before .before .limit .ensures .0) (sym e ∙ l .leaving .ensures)
+
+mul-remove : tie.Need-mul-remove
+mul-remove c =
+    let l = c .before .before .before .before in
+    omega (arith, fits l (At _) (c .before .before .k .given .1), l .before .before .limit .ensures)
+
+remove-requires : tie.Need-remove-requires
+remove-requires c κs = search needs
+
+sub-put : tie.Need-sub-put
+sub-put c =
+    let k = c .before .before .before .before .before .before in
+    omega (arith, fits (k .before .before) (At _) (k .k .given .1))
 
 mul-put : tie.Need-mul-put
 mul-put c =
-    let e = sym (c .before .before .before .before .find .ensures) ∙ c .before .before .f .given .1 in
-    let h = found-below _ _ _ _ (search needs) e in
-    search needs
+    let k = c .before .before .before .before .before .before in
+    omega (arith, fits (k .before .before) (At _) (k .k .given .1), k .before .before .before .before .limit .ensures)
 
 put-requires : tie.Need-put-requires
 put-requires c κs =
-    let e = sym (c .before .before .before .before .find .ensures) ∙ c .before .before .f .given .1 in
-    let h = found-below _ _ _ _ (search needs) e in
-    search needs
+    let k = c .before .before .before .before .before .before in
+    omega (arith, fits (k .before .before) (At _) (k .k .given .1), k .before .before .before .before .limit .ensures)
+
+cast-result : tie.Need-cast-result
+cast-result c =
+    let k = c .before .before .before .before .before .before .before .before .before in
+    omega (arith, fits (k .before .before) (At _) (k .k .given .1))
 
 same-length : tie.Need-same-length
 same-length c = search needs
 
 returns-2 : tie.Need-returns-2
-unfolding definedAt
+unfolding without withYoungest
 returns-2 c =
-    let f = c .before .before .before .before .before in
-    rw (c .before .before .put .ensures)
-    (defines _ _ _ _ _ _ (search needs) (sym (f .f .given .1) ∙ f .before .before .find .ensures))
+    let k = c .before .before .before .before .before .before .before .before .before in
+    let l = k .before .before in
+    let n = l .before .before .limit .result in
+    let m : n ≡ n - 1 + 1 = omega (arith, fits l (At _) (k .k .given .1)) in
+    rw (c .before .before .put .ensures, c .before .before .before .before .before .before .remove .ensures)
+    (ap (usersIn _) m
+    ∙ defines _ _ _ _ _ _ (At _) (search needs) (l .before .before .limit .ensures .0) (sym (k .k .given .1) ∙ l .leaving .ensures))
 
 enum-told : tie.Need-enum-told
 enum-told c = search needs
 
-mul-at : tie.Need-mul-at
-mul-at c = search needs
+mul-put-2 : tie.Need-mul-put-2
+mul-put-2 c = search needs
 
 put-requires-2 : tie.Need-put-requires-2
-put-requires-2 c κs = search needs
+put-requires-2 c κs = fits (c .before .before .before) Missing (c .before .enum-told .given .1) .0
 
 add-result : tie.Need-add-result
 add-result c = search needs
+
+cast-result-2 : tie.Need-cast-result-2
+cast-result-2 c =
+    let t = c .before .before .before .before in
+    omega (arith, fits (t .before .before) Missing (t .enum-told .given .1))
 
 same-length-2 : tie.Need-same-length-2
 same-length-2 c = search needs
 
 returns-3 : tie.Need-returns-3
-unfolding definedAt
+unfolding without withYoungest
 returns-3 c =
     let t = c .before .before .before .before in
-    let f = t .before .before .before in
-    let none = sym (t .before .enum-told .given .1) ∙ f .find .ensures in
-    let room : f .before .before .before .before .args .count < 16 = omega (arith, t .if2 .taken) in
-    rw (c .before .before .put2 .ensures, ← defines _ _ _ _ _ Missing (search needs) none, lt-ltb _ _ room)
-
-advance-requires : tie.Need-advance-requires
-advance-requires c κs = search needs
-
-put-requires-3 : tie.Need-put-requires-3
-put-requires-3 c κs = search needs
-
-same-length-3 : tie.Need-same-length-3
-same-length-3 c = search needs
-
-returns-4 : tie.Need-returns-4
-unfolding definedAt
-returns-4 c =
-    let a = c .before .before .before .before .before .before in
-    let t = a .before .before in
-    let f = t .before .before .before in
-    let none = sym (t .before .enum-told .given .1) ∙ f .find .ensures in
-    let full : 16 ≤ f .before .before .before .before .args .count = omega (arith, t .if2 .left) in
-    rw (c .before .before .put3 .ensures, a .advance .ensures, ← defines _ _ _ _ _ Missing (search needs) none, le-ltb _ _ full)
+    let l = t .before .before in
+    rw (c .before .before .put2 .ensures)
+    (defines _ _ _ _ _ _ Missing (search needs) (l .before .before .limit .ensures .0)
+    (sym (t .enum-told .given .1) ∙ l .leaving .ensures))
 
 pub define-spec : {M : Type 1} → statement M
 define-spec =
     tie.close
     (tie.spec
     returns
-    find-requires
-    enum-known-f
+    limit-requires
+    leaving-requires
+    enum-known-k
+    mul-remove
+    remove-requires
+    sub-put
     mul-put
     put-requires
+    cast-result
     same-length
     returns-2
     enum-told
-    mul-at
+    mul-put-2
     put-requires-2
     add-result
+    cast-result-2
     same-length-2
-    returns-3
-    advance-requires
-    put-requires-3
-    same-length-3
-    returns-4)
+    returns-3)

@@ -1,5 +1,5 @@
-use mathlib.Core.Path.{refl}
 use native.Mathlib.Omega.{arith}
+use native.Mathlib.Numerals.{unary-clauses}
 use lib.ListN.{length-set}
 use Rattle.users.specs.Users.{putOf}
 use borrow.Author.Needs.{needs}
@@ -56,7 +56,7 @@ same-length c = simp length-set (omega arith)
 
 returns : tie.Need-returns
 unfolding putOf
-returns c = refl
+returns c = simp unary-clauses
 
 pub put-spec : {M : Type 1} → statement M
 put-spec =

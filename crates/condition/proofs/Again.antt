@@ -1,0 +1,41 @@
+-- A code defined again (document 02, W3), as the bytes on the wire: 1B 43 code d1 d2 d3 d4 d5.
+use Prim.Native.Nat.{ℕ, _%_}
+use mathlib.Core.Path.{_≡_, refl}
+use mathlib.Core.Bool.{true, false}
+use mathlib.Core.List.{List, [], _∷_}
+use native.Mathlib.Omega.{arith}
+use lib.ListN.{length, set}
+use Rattle.users.specs.Users.{isUser, foundOf}
+use Rattle.users.specs.declared.Found.the-variants.{At}
+use Rattle.users.proofs.Places.{room-96}
+use Rattle.users.proofs.Again.{Again, again}
+use Rattle.condition.specs.declared.Condition.{Condition}
+use Rattle.condition.specs.declared.Pending.the-variants.{Nothing, Escape}
+use Rattle.condition.specs.Condition.{wellFormed}
+use Rattle.condition.specs.Set.{withPending}
+use Rattle.condition.specs.Bytes.{isChar, controlOf, escapeOf, dataOf, stepOf, stepAt, runOf}
+use Rattle.condition.proofs.Good.{Sized, good}
+
+-- four bytes held, one after the other
+held-four : (h : List ℕ) (d1 d2 d3 d4 : ℕ) → length h ≡ 4 → set (set (set (set h 0 d1) 1 d2) 2 d3) 3 d4 ≡ d1 ∷ d2 ∷ d3 ∷ d4 ∷ []
+held-four [] d1 d2 d3 d4 e = absurd (omega arith)
+held-four (a ∷ []) d1 d2 d3 d4 e = absurd (omega arith)
+held-four (a ∷ b ∷ []) d1 d2 d3 d4 e = absurd (omega arith)
+held-four (a ∷ b ∷ x ∷ []) d1 d2 d3 d4 e = absurd (omega arith)
+held-four (a ∷ b ∷ x ∷ y ∷ []) d1 d2 d3 d4 e = refl
+held-four (a ∷ b ∷ x ∷ y ∷ z ∷ h) d1 d2 d3 d4 e = absurd (omega arith)
+
+-- with nothing half received, and 1Bh no user code, 1Bh begins a command
+escaped : (c : Condition) → c .pending ≡ Nothing → isUser (c .users) 0x1B ≡ false → stepOf c 0x1B ≡ withPending c Escape
+unfolding stepAt isChar controlOf
+escaped c e u = rw (e, u)
+
+pub redefined : (c : Condition) (k code d1 d2 d3 d4 d5 : ℕ) → Sized c → wellFormed c ≡ true → c .pending ≡ Nothing
+    → isUser (c .users) 0x1B ≡ false → foundOf (c .users) code ≡ At k
+    → Again (c .users) k code (d1 ∷ d2 ∷ d3 ∷ d4 ∷ []) (d5 % 16)
+    (runOf c (0x1B ∷ 0x43 ∷ code ∷ d1 ∷ d2 ∷ d3 ∷ d4 ∷ d5 ∷ []) .users)
+unfolding runOf stepAt escapeOf dataOf
+redefined c k code d1 d2 d3 d4 d5 s w e u f =
+    let room = room-96 (c .users .bytes) (s .users-96) in
+    rw (escaped c e u, held-four (c .held) d1 d2 d3 d4 (s .held-4))
+    (again (c .users) k code (d1 ∷ d2 ∷ d3 ∷ d4 ∷ []) (d5 % 16) (omega (arith, room, good c w .count-16)) f)
