@@ -2,8 +2,8 @@
 use mathlib.Core.Path.{refl}
 use lib.ListN.{length}
 use borrow.Author.Tests.{eq-eqb, le-leb}
-use Rattle.row.specs.Row.{lineStart, scrolled, shifted, closed, removed}
-use Rattle.users.specs.Users.{roomOf, limitOf, foundIn, isUser, characterAt, putOf, without, withYoungest, defineOf}
+use Rattle.row.specs.Row.{lineStart, scrolled, shifted}
+use Rattle.users.specs.Users.{roomOf, limitOf, foundIn, isUser, characterAt, putOf, removed, without, withYoungest, defineOf}
 use Rattle.dots.specs.Dots.{dotOf, litUpTo, litOf}
 use Rattle.condition.specs.Condition.{allUpTo, absent, usersGood, pendingGood, numbersGood, scrollGood, escapeGood, wellFormed}
 use Rattle.condition.specs.Condition.{powerUp}
@@ -25,7 +25,7 @@ use Rattle.bench_sheet.specs.TallySheet.{AllCount, tallySheet}
 
 pub bench : AllHold sheet
 unfolding powerUp runOf stepAt isChar isUser foundIn limitOf roomOf writeOf pushOf rightOf scrollOf scrolled shifted lineStart
-    controlOf leftOf downOf returnOf clearOf escapeOf positionOf dataOf defineOf without withYoungest removed closed putOf
+    controlOf leftOf downOf returnOf clearOf escapeOf positionOf dataOf defineOf removed without withYoungest putOf
     totalOf quickAt writeBusy controlBusy escapeBusy rightScrolls downScrolls lineShifts showsOf showsCode dotsUpTo dotAnswer
     litAnswer lookupOf wellFormed numbersGood scrollGood allUpTo usersGood absent pendingGood escapeGood characterAt dotOf litOf
     litUpTo wrong left next down move near1 near2 dist leaves firstByte pathOf path flagged planOf plan onMove lacks

@@ -4,11 +4,12 @@ use mathlib.Core.Bool.{true, _&&_}
 use mathlib.Core.List.{List}
 use Prim.Native.Nat.{ℕ, _<_, _≤_, _%_}
 use lib.Dec.{leb, ltb, eqb}
+use native.Mathlib.Omega.{arith}
 use lib.ListN.{set, length, length-set}
 use borrow.Author.Tests.{leb-true, ltb-true, le-leb, lt-ltb}
 use Rattle.laws.proofs.Tests.{clash, both, by-test}
 use Rattle.row.proofs.Laws.{line-start-most, scrolled-40, shifted-40}
-use Rattle.users.proofs.Places.{define-length}
+use Rattle.users.proofs.Places.{room-96, define-length}
 use Rattle.condition.specs.declared.Condition.{Condition}
 use Rattle.condition.specs.declared.Pending.{Pending}
 use Rattle.condition.specs.declared.Pending.the-variants.{Nothing, Escape, Position, Luminance, Speed, UserCode, UserData}
@@ -182,7 +183,8 @@ commands-sized c b s =
       user-data =
           λ code n e. by-test Sized (ltb n 4)
           (λ _. let l : length (set (c .held) n b) ≡ 4 = length-set (c .held) n b ∙ s .held-4 in search)
-          (λ _. let l = define-length (c .users) code (c .held) (b % 16) ∙ s .users-96 in search);
+          (λ _. let r = room-96 (c .users .bytes) (s .users-96) in
+          let l = define-length (c .users) code (c .held) (b % 16) (omega arith) ∙ s .users-96 in search);
     }
 
 pub step-sized : (c : Condition) (b : ℕ) → Sized c → Sized (stepOf c b)

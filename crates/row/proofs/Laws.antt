@@ -1,18 +1,18 @@
 -- What a pull, a fill and a copy make of the places, turn by turn and in the end; what is laid over a row; and sizes.
-use Prim.Native.Nat.{ℕ, zero, suc, _+_, _-_, _≤_, _<_, min}
+use Prim.Native.Nat.{ℕ, suc, _+_, _-_, _≤_, _<_, min}
 use native.Mathlib.Nat.{zero-min, min-zero, suc-min-suc}
-use mathlib.Core.Path.{_≡_, refl, ap, sym, _∙_}
+use mathlib.Core.Path.{_≡_, ap, sym, _∙_}
 use mathlib.Core.List.{List, [], _∷_, _++_, append-assoc, append-nil}
 use native.Mathlib.Omega.{arith}
 use native.Mathlib.Numerals.{add-one}
 use lib.ListN.{length, getD, take, drop, set, replicate, length-append, length-take, length-drop, length-replicate}
-use lib.ListN.{replicate-append-replicate, drop-of-length-le, List·getD-append}
+use lib.ListN.{replicate-append-replicate, drop-of-length-le}
 use lib.Seq.{paste, paste-suc, drop-paste, getD-drop, take-all, drop-cons, set-at, length-paste-head, take-suc-set, take-paste}
-use lib.Seq.{take-suc, take-nil, drop-nil, drop-length, append-snoc, length-take-le, getD-take, getD-append-add}
+use lib.Seq.{take-suc, take-nil, drop-nil, drop-length, append-snoc, length-take-le}
 use lib.Dec.{leb, ltb}
-use borrow.Author.Tests.{leb-true, leb-false, eq-eqb, le-leb, lt-leb}
+use borrow.Author.Tests.{leb-true, leb-false, eq-eqb}
 use Rattle.laws.proofs.Tests.{by-cases, by-test}
-use Rattle.row.specs.Row.{lineStart, scrolled, shifted, onPicture, closed, removed, laid}
+use Rattle.row.specs.Row.{lineStart, scrolled, shifted, onPicture, advanced, laid}
 
 -- a turn of a loop that pastes
 pub paste-turn : (d s out : List ℕ) (to from i : ℕ) → out ≡ paste d to (drop from s) i → to + i < length d → from + i < length s
@@ -62,18 +62,15 @@ pub on-picture : (f : List ℕ → List ℕ) (a : List ℕ) → length a ≡ 40 
 unfolding onPicture
 on-picture f a h = rw (eq-eqb (length a) 40 h)
 
--- a pull and then a fill close a gap
-pub close-law : (a out : List ℕ) (at by kept v : ℕ) → at + by ≤ length a → kept ≡ length a - by → length out ≡ length a
-    → out ≡ paste a at (drop (at + by) a) (kept - at) → take kept out ++ replicate (length out - kept) v ≡ closed at by v a
-unfolding closed
-close-law a out at by kept v h e l p =
-    let m : length (drop (at + by) a) ≡ kept - at = simp length-drop (omega arith) in
-    let t : take (at + (kept - at)) out ≡ take at a ++ drop (at + by) a =
-    rw p (take-paste a at (drop (at + by) a) (kept - at) (omega arith) (omega arith)
-    ∙ ap (λ (r : List ℕ). take at a ++ r) (take-all (kept - at) (drop (at + by) a) (omega arith))) in
-    let k : at + (kept - at) ≡ kept = omega arith in
-    let n : length out - kept ≡ by = omega arith in
-    rw (n, ← t, k)
+pub scroll-law : (a out : List ℕ) (v : ℕ) → length a ≡ 40 → length out ≡ 40 → out ≡ paste a 0 (drop 20 a) 20
+    → take 20 out ++ replicate (length out - 20) v ≡ scrolled v a
+unfolding scrolled
+scroll-law a out v h l p =
+    let k : length (drop 20 a) ≤ 20 = simp length-drop (omega arith) in
+    let m : 20 ≤ length (drop 20 a) = simp length-drop (omega arith) in
+    let e : take 20 out ≡ drop 20 a = rw p (take-paste a 0 (drop 20 a) 20 (omega arith) m ∙ take-all 20 (drop 20 a) k) in
+    let n : length out - 20 ≡ 20 = omega arith in
+    rw (e, n)
 
 pub shift-law : (a : List ℕ) (start v : ℕ) → length a ≡ 40 → start ≤ 20
     → set (paste a start (drop (start + 1) a) 19) (start + 19) v ≡ shifted start v a
@@ -86,42 +83,21 @@ shift-law a start v h k =
     let m : length head ≡ start + 19 = length-paste-head a start (drop (start + 1) a) 19 (omega arith) n in
     rw (drop-cons a (start + 19) 0 l, e) (set-at head _ _ v (start + 19) m)
 
-pub removes : (a : List ℕ) (at by : ℕ) → at + by ≤ length a → removed at by a ≡ closed at by 0 a
-unfolding removed
-removes a at by h = rw (le-leb (at + by) (length a) h)
+pub advance-law : (a : List ℕ) (by n : ℕ) → by ≤ length a → n ≡ length a - by → paste a 0 (drop (0 + by) a) n ≡ advanced by a
+unfolding advanced
+advance-law a by n h e =
+    let z : 0 + by ≡ by = omega arith in
+    let l : length (drop by a) ≤ n = simp length-drop (omega arith) in
+    let m : 0 + n ≡ length a - by = omega arith in
+    rw (z, take-all n (drop by a) l, m)
 
-pub removes-none : (a : List ℕ) (at by : ℕ) → length a < at + by → removed at by a ≡ a
-unfolding removed
-removes-none a at by h = rw (lt-leb (at + by) (length a) h)
-
--- zeros at the end are read as what is not there
-zeros-after : (a : List ℕ) (n i : ℕ) → getD (a ++ replicate n 0) i 0 ≡ getD a i 0
-zeros-after [] zero i = refl
-zeros-after [] (suc n) zero = refl
-zeros-after [] (suc n) (suc i) = zeros-after [] n i
-zeros-after (b ∷ a) n zero = refl
-zeros-after (b ∷ a) n (suc i) = zeros-after a n i
-
--- what stands before a gap stays, and what stands after it comes `by` places earlier
-module _ (a : List ℕ) (at by : ℕ) (h : at + by ≤ length a) where
-  gap : (i : ℕ) → getD (removed at by a) i 0 ≡ getD (take at a ++ drop (at + by) a) i 0
-  unfolding closed
-  gap i = ap (λ (x : List ℕ). getD x i 0) (removes a at by h) ∙ zeros-after (take at a ++ drop (at + by) a) by i
-
-  head : length (take at a) ≡ at
-  head = length-take-le at a (omega arith)
-
-  pub before-gap : (i : ℕ) → i < at → getD (removed at by a) i 0 ≡ getD a i 0
-  before-gap i l =
-      gap i ∙ List·getD-append (take at a) (drop (at + by) a) 0 i (omega (arith, head)) ∙ getD-take at a i 0 l
-
-  pub after-gap : (i : ℕ) → at ≤ i → getD (removed at by a) i 0 ≡ getD a (i + by) 0
-  after-gap i l =
-      let e : length (take at a) + (i - at) ≡ i = omega (arith, head) in
-      let f : at + by + (i - at) ≡ i + by = omega arith in
-      gap i ∙ ap (λ (n : ℕ). getD (take at a ++ drop (at + by) a) n 0) (sym e)
-      ∙ getD-append-add (take at a) (drop (at + by) a) (i - at) 0 ∙ getD-drop (at + by) a (i - at) 0
-      ∙ ap (λ (n : ℕ). getD a n 0) f
+-- fewer places than `by`: nothing moves
+pub advance-short : (a : List ℕ) (by : ℕ) → length a < by → a ≡ advanced by a
+unfolding advanced
+advance-short a by h =
+    let l : length a ≤ by = omega arith in
+    let z : length a - by ≡ 0 = omega arith in
+    rw (drop-of-length-le a l, z)
 
 -- Laid over the start of a row --------------------------------------------------------------------------------------------------
 
@@ -175,9 +151,6 @@ pub shifted-40 : (start v : ℕ) (a : List ℕ) → start ≤ 20 → length a �
 unfolding shifted
 shifted-40 start v a l h = simp (length-append, length-take, length-drop) (omega arith)
 
-pub removed-length : (at by : ℕ) (a : List ℕ) → length (removed at by a) ≡ length a
-unfolding removed closed
-removed-length at by a =
-    by-test (λ (x : List ℕ). length x ≡ length a) (leb (at + by) (length a))
-    (λ t. simp (length-append, length-take, length-drop, length-replicate) (omega (arith, leb-true (at + by) (length a) t)))
-    (λ _. refl)
+pub advanced-length : (by : ℕ) (a : List ℕ) → by ≤ length a → length (advanced by a) ≡ length a
+unfolding advanced
+advanced-length by a h = simp (length-append, length-drop) (omega arith)

@@ -1,9 +1,9 @@
 -- Pictures of two lines of 20 places (document 01, The condition), and what moves whole rows.
-use Prim.Native.Nat.{ℕ, _+_}
+use Prim.Native.Nat.{ℕ, _+_, _-_}
 use mathlib.Core.List.{List, _∷_, _++_}
 use mathlib.Core.Bool.{cond}
 use lib.ListN.{length, take, drop, replicate}
-use lib.Dec.{eqb, ltb, leb}
+use lib.Dec.{eqb, ltb}
 
 -- column 0 of the line of a place
 unfoldable pub lineStart : ℕ → ℕ
@@ -21,13 +21,9 @@ shifted start v a = take start a ++ take 19 (drop (start + 1) a) ++ v ∷ drop (
 unfoldable pub onPicture : (List ℕ → List ℕ) → List ℕ → List ℕ
 onPicture f a = cond (eqb (length a) 40) (f a) a
 
--- the `by` places from `at` on taken out: what stands after them closes the gap, and the last `by` are v
-unfoldable pub closed : ℕ → ℕ → ℕ → List ℕ → List ℕ
-closed at by v a = take at a ++ drop (at + by) a ++ replicate by v
-
--- the same with 0 at the end; places that are not there take nothing out
-unfoldable pub removed : ℕ → ℕ → List ℕ → List ℕ
-removed at by a = cond (leb (at + by) (length a)) (closed at by 0 a) a
+-- each place takes what stands `by` places further on; the last `by` keep what they hold
+unfoldable pub advanced : ℕ → List ℕ → List ℕ
+advanced by a = drop by a ++ drop (length a - by) a
 
 -- s over the start of d, as far as there is room
 unfoldable pub laid : List ℕ → List ℕ → List ℕ

@@ -5,7 +5,7 @@ ghost use Prim.Native.Nat.{_+_, _-_, _≤_, min};
 ghost use lib.ListN.{length, take, drop, set, replicate};
 ghost use mathlib.Core.List.{_++_};
 ghost use lib.Seq.{paste};
-ghost use Rattle.row.specs.Row.{lineStart, scrolled, shifted, onPicture, closed, removed, laid};
+ghost use Rattle.row.specs.Row.{lineStart, scrolled, shifted, onPicture, advanced, laid};
 
 // The n places from `to` on take what stands `by` places further on.
 fn pull(cells: &mut [u8], to: usize, by: usize, n: usize)
@@ -29,16 +29,6 @@ fn fill(cells: &mut [u8], from: usize, v: u8)
         cells[i] = v;
         i += 1;
     }
-}
-
-// The `by` places from `at` on are taken out: what stands after them closes the gap, and the last `by` are v.
-fn close(cells: &mut [u8], at: usize, by: usize, v: u8)
-    requires { ⌜ at + by ≤ length (now cells) ⌝ }
-    ensures { λ _. ⌜ now (cells .exit) ≡ closed at by v (now (cells .entry)) ⌝ }
-{
-    let kept = cells.len() - by;
-    pull(cells, at, by, kept - at);
-    fill(cells, kept, v);
 }
 
 fn least(a: usize, b: usize) -> usize
@@ -77,7 +67,8 @@ pub fn scroll(cells: &mut [u8], v: u8)
     if cells.len() != 40 {
         return;
     }
-    close(cells, 0, 20, v);
+    pull(cells, 0, 20, 20);
+    fill(cells, 20, v);
 }
 
 // The line of the place `at` shifts left one, and v comes to its column 19. What is not a picture stays as it is.
@@ -92,18 +83,15 @@ pub fn shift(cells: &mut [u8], at: u8, v: u8)
     cells[start + 19] = v;
 }
 
-// The `by` places from `at` on are taken out: what stands after them closes the gap, and the last `by` are 0. Places that
-// are not there take nothing out.
-pub fn remove(bytes: &mut [u8], at: usize, by: usize)
-    ensures { λ _. ⌜ now (bytes .exit) ≡ removed at by (now (bytes .entry)) ⌝ }
+// Each place takes what stands `by` places further on; the last `by` places keep what they hold.
+pub fn advance(bytes: &mut [u8], by: usize)
+    ensures { λ _. ⌜ now (bytes .exit) ≡ advanced by (now (bytes .entry)) ⌝ }
 {
     if bytes.len() < by {
         return;
     }
-    if bytes.len() - by < at {
-        return;
-    }
-    close(bytes, at, by, 0);
+    let n = bytes.len() - by;
+    pull(bytes, 0, by, n);
 }
 
 // The bytes of `from` stand at the start of `to`, as far as there is room.

@@ -6,12 +6,11 @@ use mathlib.Core.List.{List}
 use native.Mathlib.Omega.{arith}
 use native.Mathlib.Nat.{add-zero}
 use lib.ListN.{length, getD}
-use Rattle.row.specs.Row.{removed}
-use Rattle.row.proofs.Laws.{removed-length}
 use Rattle.users.specs.declared.Users.{Users}
 use Rattle.users.specs.declared.Found.the-variants.{At}
-use Rattle.users.specs.Users.{roomOf, foundOf, placeAt, sixOf, putOf, usersIn, without, withYoungest, defineOf}
-use Rattle.users.proofs.Places.{limit-count, found-holds, put-else, put-there, came, left-at}
+use Rattle.users.specs.Users.{roomOf, foundOf, placeAt, sixOf, putOf, usersIn, removed, without, withYoungest, defineOf}
+use Rattle.users.proofs.Removal.{came, removed-length, left-at}
+use Rattle.users.proofs.Places.{limit-count, found-holds, put-else, put-there}
 
 -- v is u with the place k taken out, and last the code with its new bytes
 pub record Again (u : Users) (k code : ℕ) (held : List ℕ) (last : ℕ) (v : Users) : Type 0 where
@@ -48,22 +47,26 @@ put-place us k code held last h =
 
 module _ (u : Users) (k code : ℕ) (held : List ℕ) (last : ℕ) (l : u .count ≤ roomOf (u .bytes)) (e : foundOf u code ≡ At k) where
   abbrev after : List ℕ
-  after = putOf (removed (k * 6) 6 (u .bytes)) ((u .count - 1) * 6) code held last
+  after = putOf (removed k (u .count - 1) (u .bytes)) ((u .count - 1) * 6) code held last
 
   moved : defineOf u code held last ≡ usersIn after (u .count - 1 + 1)
   unfolding defineOf withYoungest without
   moved = rw (e, limit-count (u .bytes) (u .count) l)
 
-  others : (i : ℕ) → i < u .count - 1 → placeAt after i ≡ placeAt (u .bytes) (came k i)
+  in-use : k ≤ u .count - 1
+  in-use = omega (arith, found-holds (u .bytes) (u .count) l code k e .0)
+
+  there : (u .count - 1) * 6 + 6 ≤ length (u .bytes)
   unfolding roomOf
+  there = omega (arith, found-holds (u .bytes) (u .count) l code k e .0)
+
+  others : (i : ℕ) → i < u .count - 1 → placeAt after i ≡ placeAt (u .bytes) (came k i)
   others i h =
-      let f = found-holds (u .bytes) (u .count) l code k e in
       same-place after (u .bytes) i (came k i)
-      (λ j m. put-else (removed (k * 6) 6 (u .bytes)) ((u .count - 1) * 6) code held last (i * 6 + j) (λ n _ y. omega arith)
-      ∙ left-at (u .bytes) k (omega arith) i j m)
+      (λ j m. put-else (removed k (u .count - 1) (u .bytes)) ((u .count - 1) * 6) code held last (i * 6 + j) (λ n _ y. omega arith)
+      ∙ left-at (u .bytes) k (u .count - 1) in-use there i j h m)
 
   pub again : Again u k code held last (defineOf u code held last)
-  unfolding roomOf
   again =
       let f = found-holds (u .bytes) (u .count) l code k e in
       rw moved (record {
@@ -71,6 +74,6 @@ module _ (u : Users) (k code : ℕ) (held : List ℕ) (last : ℕ) (l : u .count
         older = λ i h. others i (omega arith) ∙ ap (placeAt (u .bytes)) (omega arith);
         younger = λ i h m. others i (omega arith) ∙ ap (placeAt (u .bytes)) (omega arith);
         youngest =
-            put-place (removed (k * 6) 6 (u .bytes)) (u .count - 1) code held last
-            (rw (removed-length (k * 6) 6 (u .bytes)) (omega arith));
+            put-place (removed k (u .count - 1) (u .bytes)) (u .count - 1) code held last
+            (rw (removed-length (u .bytes) k (u .count - 1) in-use there) there);
       })

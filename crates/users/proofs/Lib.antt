@@ -1,3 +1,4 @@
 pub mod Again
 pub mod Laws
 pub mod Places
+pub mod Removal

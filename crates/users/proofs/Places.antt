@@ -1,4 +1,4 @@
--- Places of six bytes: where a code stands, what a put changes, what a place taken out leaves, and sizes.
+-- Places of six bytes: where a code stands, what a put changes, and that a definition keeps them well formed.
 use Prim.Native.Nat.{ℕ, zero, suc, _+_, _-_, _*_, _/_, _<_, _≤_}
 use mathlib.Core.Path.{_≡_, refl, sym, ap, _∙_}
 use mathlib.Core.List.{List}
@@ -7,17 +7,16 @@ use native.Mathlib.Omega.{arith}
 use native.Mathlib.Nat.{add-zero}
 use lib.ListN.{length, getD}
 use lib.Seq.{length-sets}
-use lib.Dec.{eqb, leb}
-use borrow.Author.Tests.{eqb-true, eqb-false, leb-true, leb-false}
-use Rattle.laws.proofs.Tests.{by-cases, by-test, by-equal}
+use lib.Dec.{eqb}
+use borrow.Author.Tests.{eqb-true, eqb-false}
+use Rattle.laws.proofs.Tests.{by-test, by-equal}
 use Rattle.laws.proofs.Lists.{sets-else, sets-there}
-use Rattle.row.specs.Row.{removed}
-use Rattle.row.proofs.Laws.{removed-length, before-gap, after-gap}
 use Rattle.users.specs.declared.Users.{Users}
 use Rattle.users.specs.declared.Found.{Found}
 use Rattle.users.specs.declared.Found.the-variants.{Missing, At}
 use Rattle.users.specs.Users.{placeOf, roomOf, limitOf, foundIn, foundOf, isFound, isUser, sixOf, putOf}
-use Rattle.users.specs.Users.{inRoom, leavingOf, without, withYoungest, defineOf}
+use Rattle.users.specs.Users.{inRoom, leavingOf, removed, without, withYoungest, defineOf}
+use Rattle.users.proofs.Removal.{came, removed-length, left-at, rest-at}
 use Rattle.users.proofs.Laws.{found-below, by-leaving}
 
 -- Sizes ------------------------------------------------------------------------------------------------------------------------
@@ -25,18 +24,6 @@ use Rattle.users.proofs.Laws.{found-below, by-leaving}
 pub put-length : (us : List ℕ) (at code : ℕ) (held : List ℕ) (last : ℕ) → length (putOf us at code held last) ≡ length us
 unfolding putOf
 put-length us at code held last = length-sets us at (sixOf code held last)
-
-without-length : (f : Found) (u : Users) → length (without f u .bytes) ≡ length (u .bytes)
-unfolding without
-without-length Missing u = refl
-without-length (At k) u = removed-length (k * 6) 6 (u .bytes)
-
-pub define-length : (u : Users) (code : ℕ) (held : List ℕ) (last : ℕ)
-    → length (defineOf u code held last .bytes) ≡ length (u .bytes)
-unfolding defineOf withYoungest
-define-length u code held last =
-    let v : Users = without (leavingOf u code) (inRoom u) in
-    put-length (v .bytes) (v .count * 6) code held last ∙ without-length (leavingOf u code) (inRoom u)
 
 -- 96 bytes have room for 16
 pub room-96 : (us : List ℕ) → length us ≡ 96 → roomOf us ≡ 16
@@ -91,25 +78,10 @@ module _ (us : List ℕ) (at code : ℕ) (held : List ℕ) (last : ℕ) where
   unfolding putOf
   put-there = sets-there us at (sixOf code held last)
 
--- What is left when the place k is taken out ------------------------------------------------------------------------------------
-
--- the place that comes to the place i: itself before k, from there on the next one
-abbrev pub came : ℕ → ℕ → ℕ
-came k i = i + (1 - (k - i))
-
-module _ (us : List ℕ) (k : ℕ) (h : k * 6 + 6 ≤ length us) where
-  pub left-at : (i j : ℕ) → j < 6 → getD (removed (k * 6) 6 us) (i * 6 + j) 0 ≡ getD us (came k i * 6 + j) 0
-  left-at i j l =
-      by-cases (leb k i)
-      (λ t. let m = leb-true k i t in
-      let e : i * 6 + j + 6 ≡ came k i * 6 + j = omega arith in
-      after-gap us (k * 6) 6 h (i * 6 + j) (omega arith) ∙ ap (λ (n : ℕ). getD us n 0) e)
-      (λ t. let m = leb-false k i t in
-      let e : i * 6 + j ≡ came k i * 6 + j = omega arith in
-      before-gap us (k * 6) 6 h (i * 6 + j) (omega arith) ∙ ap (λ (n : ℕ). getD us n 0) e)
-
-  pub code-left : (i : ℕ) → getD (removed (k * 6) 6 us) (i * 6) 0 ≡ getD us (came k i * 6) 0
-  code-left i = simp add-zero at (left-at i 0 (omega arith))
+-- the code of a place, where one was taken out
+code-left : (us : List ℕ) (k last : ℕ) (h : k ≤ last) (l : last * 6 + 6 ≤ length us) (i : ℕ) → i < last
+    → getD (removed k last us) (i * 6) 0 ≡ getD us (came k i * 6) 0
+code-left us k last h l i m = simp add-zero at (left-at us k last h l i 0 m (omega arith))
 
 -- Well-formed places: each fifth byte below a bound, codes distinct, the rest 0 ---------------------------------------------------
 
@@ -122,17 +94,17 @@ pub record Places (bound n : ℕ) (l : List ℕ) : Type 0 where
 abbrev New : ℕ → ℕ → List ℕ → Type 0
 New code n l = (i : ℕ) → i < n → getD l (i * 6) 0 ≡ code → ⊥
 
--- one place taken out
-without-places : (bound n k : ℕ) (l : List ℕ) → Places bound n l → k < n → n * 6 ≤ length l
-    → Places bound (n - 1) (removed (k * 6) 6 l)
-without-places bound n k l p h m =
+-- one place taken out of those up to `last`
+removed-places : (bound n k last : ℕ) (l : List ℕ) → Places bound n l → n ≡ last + 1 → (h : k ≤ last) (m : last * 6 + 6 ≤ length l)
+    → Places bound last (removed k last l)
+removed-places bound n k last l p e h m =
     record {
-      fifth = λ i g. rw (left-at l k (omega arith) i 5 (omega arith)) (p .fifth (came k i) (omega arith));
+      fifth = λ i g. rw (left-at l k last h m i 5 g (omega arith)) (p .fifth (came k i) (omega arith));
       apart =
-          λ i j g f e.
-          let same = sym (code-left l k (omega arith) i) ∙ e ∙ code-left l k (omega arith) j in
+          λ i j g f d.
+          let same = sym (code-left l k last h m i g) ∙ d ∙ code-left l k last h m j f in
           omega (arith, p .apart (came k i) (came k j) (omega arith) (omega arith) same);
-      rest = λ i g. after-gap l (k * 6) 6 (omega arith) i (omega arith) ∙ p .rest (i + 6) (omega arith);
+      rest = rest-at l k last h m (λ i g. p .rest i (omega arith));
     }
 
 -- a new code put last
@@ -174,10 +146,13 @@ module _ (bound : ℕ) (u : Users) (code : ℕ) (l : u .count ≤ roomOf (u .byt
       → Made bound code (without (At k) u)
   unfolding without roomOf
   made-at k h only =
+      let last = u .count - 1 in
+      let f : k ≤ last = omega arith in
+      let m : last * 6 + 6 ≤ length (u .bytes) = omega arith in
       record {
-        places = without-places bound (u .count) k (u .bytes) p h (omega arith);
-        new = λ i m y. omega (arith, only (came k i) (omega arith) (sym (code-left (u .bytes) k (omega arith) i) ∙ y));
-        fits = rw (removed-length (k * 6) 6 (u .bytes)) (omega arith);
+        places = removed-places bound (u .count) k last (u .bytes) p (omega arith) f m;
+        new = λ i g y. omega (arith, only (came k i) (omega arith) (sym (code-left (u .bytes) k last f m i g) ∙ y));
+        fits = rw (removed-length (u .bytes) k last f m) m;
       }
 
   made : 0 < roomOf (u .bytes) → Made bound code (without (leavingOf u code) (inRoom u))
@@ -196,12 +171,31 @@ module _ (bound : ℕ) (u : Users) (code : ℕ) (l : u .count ≤ roomOf (u .byt
       let m = made r in
       put-places bound _ code _ held last (m .places) (m .new) (m .fits) low
 
+-- How many there are then, and in how many bytes ----------------------------------------------------------------------------------
+
 pub define-most : (u : Users) (code : ℕ) (held : List ℕ) (last : ℕ) → 0 < roomOf (u .bytes)
     → defineOf u code held last .count ≤ roomOf (u .bytes)
 unfolding defineOf withYoungest without limitOf
 define-most u code held last r =
     by-leaving (inRoom u) (λ (f : Found). without f (inRoom u) .count + 1 ≤ roomOf (u .bytes)) (foundOf u code)
     (λ k e. omega (arith, found-below (u .bytes) (u .count) code k e)) (λ _ m. omega arith) (λ _ m. omega arith)
+
+without-length : (u : Users) (code : ℕ) → 0 < roomOf (u .bytes)
+    → length (without (leavingOf u code) (inRoom u) .bytes) ≡ length (u .bytes)
+unfolding without limitOf roomOf
+without-length u code r =
+    by-leaving (inRoom u) (λ (f : Found). length (without f (inRoom u) .bytes) ≡ length (u .bytes)) (foundOf u code)
+    (λ k e. let m = found-below (u .bytes) (u .count) code k e in
+    removed-length (u .bytes) k (limitOf (u .bytes) (u .count) - 1) (omega arith) (omega arith))
+    (λ _ _. refl)
+    (λ _ m. removed-length (u .bytes) 0 (limitOf (u .bytes) (u .count) - 1) (omega arith) (omega arith))
+
+pub define-length : (u : Users) (code : ℕ) (held : List ℕ) (last : ℕ) → 0 < roomOf (u .bytes)
+    → length (defineOf u code held last .bytes) ≡ length (u .bytes)
+unfolding defineOf withYoungest
+define-length u code held last r =
+    let v : Users = without (leavingOf u code) (inRoom u) in
+    put-length (v .bytes) (v .count * 6) code held last ∙ without-length u code r
 
 -- a code on which no user character sits stands in no place
 pub not-user : (u : Users) (code : ℕ) → u .count ≤ roomOf (u .bytes) → isUser u code ≡ false

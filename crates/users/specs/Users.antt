@@ -1,11 +1,10 @@
 -- User characters (document 01, The condition): up to 16, code and five bytes, oldest first, in places of six bytes.
 use Prim.Native.Nat.{ℕ, zero, suc, _+_, _-_, _*_, _/_, min}
-use mathlib.Core.List.{List, [], _∷_}
+use mathlib.Core.List.{List, [], _∷_, _++_}
 use mathlib.Core.Bool.{Bool, true, false, cond}
-use lib.ListN.{length, getD}
+use lib.ListN.{length, getD, take, drop, replicate}
 use lib.Seq.{sets}
 use lib.Dec.{eqb, ltb, leb}
-use Rattle.row.specs.Row.{removed}
 use Rattle.users.specs.declared.Users.{Users}
 use Rattle.dots.specs.declared.Character.{Character}
 use Rattle.users.specs.declared.Found.{Found}
@@ -84,10 +83,15 @@ leavingBy Missing u = cond (ltb (u .count) (roomOf (u .bytes))) Missing (At 0)
 abbrev pub leavingOf : Users → ℕ → Found
 leavingOf u code = leavingBy (foundOf u code) (inRoom u)
 
--- without that place: each later one moves down one, so that no gap is left, and the last is 0
+-- the place k taken out of those up to `last`: what stands before it, what stands after it, a place of 0, and the rest
+unfoldable pub removed : ℕ → ℕ → List ℕ → List ℕ
+removed k last us =
+    take (k * 6) us ++ take ((last - k) * 6) (drop (k * 6 + 6) us) ++ replicate 6 0 ++ drop (last * 6 + 6) us
+
+-- without the place that goes: those after it are each one place earlier, so that no gap is left
 unfoldable pub without : Found → Users → Users
 without Missing u = u
-without (At k) u = usersIn (removed (k * 6) 6 (u .bytes)) (u .count - 1)
+without (At k) u = usersIn (removed k (u .count - 1) (u .bytes)) (u .count - 1)
 
 -- the code with its five bytes comes last, the youngest
 unfoldable pub withYoungest : Users → ℕ → List ℕ → ℕ → Users

@@ -2,7 +2,7 @@
 ghost use mathlib.Core.Path.{_≡_};
 ghost use Prim.Native.Nat.{_+_, _*_, _≤_};
 ghost use lib.ListN.{length};
-ghost use Rattle.users.specs.Users.{roomOf, limitOf, foundIn, isFound, characterAt, putOf, usersIn, leavingOf, defineIn};
+ghost use Rattle.users.specs.Users.{roomOf, limitOf, foundIn, isFound, characterAt, putOf, usersIn, leavingOf, removed, defineIn};
 use dots::Character;
 
 pub struct Users {
@@ -17,6 +17,9 @@ impl Users {
     pub const PLACE: usize = 6;
 
     pub const BYTES: usize = 96;
+
+    // The bytes of two places.
+    const TWO: usize = 12;
 }
 
 // The lookup of a code: its place, counted from the oldest, or none.
@@ -37,9 +40,9 @@ fn room(bytes: &[u8]) -> usize
 fn limit(bytes: &[u8], count: u8) -> usize
     ensures { λ r. ⌜ (r ≡ limitOf (now (bytes .entry)) count) × (6 * r ≤ length (now (bytes .entry))) ⌝ }
 {
-    let most = room(bytes);
+    let room = bytes.len() / Users::PLACE;
     let n = count as usize;
-    if n < most { n } else { most }
+    if n < room { n } else { room }
 }
 
 // The place of a code among the first `count`.
@@ -116,6 +119,21 @@ fn leaving(bytes: &[u8], count: u8, code: u8) -> Found
     }
 }
 
+// Takes the place k out of those up to `last`: each later one moves to the place before it, and `last` is 0.
+fn remove(bytes: &mut [u8], k: usize, last: usize)
+    requires { ⌜ (k ≤ last) × (last * 6 + 6 ≤ length (now bytes)) ⌝ }
+    ensures { λ _. ⌜ now (bytes .exit) ≡ removed k last (now (bytes .entry)) ⌝ }
+{
+    let mut i = k;
+    while i < last {
+        let at = i * Users::PLACE;
+        row::advance(&mut bytes[at..at + Users::TWO], Users::PLACE);
+        i += 1;
+    }
+    let end = last * Users::PLACE;
+    row::clear(&mut bytes[end..end + Users::PLACE], 0);
+}
+
 // A code with its five bytes comes last, the youngest. The place that it had is taken out, or, with all places in use, the
 // oldest; the others keep their order. Answers how many are held then. Bytes that have no room for a place stay as they are.
 pub fn define(bytes: &mut [u8], count: u8, code: u8, held: [u8; 4], last: u8) -> u8
@@ -126,8 +144,9 @@ pub fn define(bytes: &mut [u8], count: u8, code: u8, held: [u8; 4], last: u8) ->
     }
     let n = limit(bytes, count);
     if let Found::At(k) = leaving(bytes, count, code) {
-        row::remove(bytes, k * Users::PLACE, Users::PLACE);
-        put(bytes, (n - 1) * Users::PLACE, code, held, last);
+        let end = n - 1;
+        remove(bytes, k, end);
+        put(bytes, end * Users::PLACE, code, held, last);
         return n as u8;
     }
     put(bytes, n * Users::PLACE, code, held, last);

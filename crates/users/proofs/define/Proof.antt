@@ -28,18 +28,14 @@ fits : (l : tie.After-leaving) (f : Found) → l .leaving .result ≡ f
     → Fits (l .before .before .before .before .before .before .args .bytes .now) (l .before .before .limit .result) f
 fits l f e = leaving-fits _ _ _ _ f (search needs) (l .before .before .limit .ensures .0) (sym e ∙ l .leaving .ensures)
 
-mul-remove : tie.Need-mul-remove
-mul-remove c =
-    let l = c .before .before .before .before in
-    omega (arith, fits l (At _) (c .before .before .k .given .1), l .before .before .limit .ensures)
+sub-end : tie.Need-sub-end
+sub-end c = omega (arith, fits (c .before .before .before) (At _) (c .before .k .given .1))
 
 remove-requires : tie.Need-remove-requires
-remove-requires c κs = search needs
-
-sub-put : tie.Need-sub-put
-sub-put c =
-    let k = c .before .before .before .before .before .before in
-    omega (arith, fits (k .before .before) (At _) (k .k .given .1))
+remove-requires c κs =
+    let k = c .before .before in
+    let f = fits (k .before .before) (At _) (k .k .given .1) in
+    (omega (arith, f), omega (arith, f, k .before .before .before .before .limit .ensures))
 
 mul-put : tie.Need-mul-put
 mul-put c =
@@ -107,9 +103,8 @@ define-spec =
     limit-requires
     leaving-requires
     enum-known-k
-    mul-remove
+    sub-end
     remove-requires
-    sub-put
     mul-put
     put-requires
     cast-result

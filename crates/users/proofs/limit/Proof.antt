@@ -1,11 +1,7 @@
 use native.Mathlib.Omega.{arith}
 use Rattle.users.specs.Users.{roomOf, limitOf}
-use borrow.Author.Needs.{needs}
 use Rattle.users.proofs.limit.Statement.{statement}
 use Rattle.users.proofs.limit.Tie as tie
-
-room-requires : tie.Need-room-requires
-room-requires c κs = search needs
 
 returns : tie.Need-returns
 unfolding limitOf roomOf
@@ -16,4 +12,4 @@ unfolding limitOf roomOf
 returns-2 c = (omega arith, omega arith)
 
 pub limit-spec : {M : Type 1} → statement M
-limit-spec = tie.close (tie.spec room-requires returns returns-2)
+limit-spec = tie.close (tie.spec returns returns-2)
