@@ -31,7 +31,7 @@ extern "C" {
 
 /* The version of the library that this header belongs to. */
 #define SIGN_VERSION_MAJOR 2
-#define SIGN_VERSION_MINOR 0
+#define SIGN_VERSION_MINOR 1
 
 #define SIGN_BLOCK      512   /* bytes of a block */
 #define SIGN_TALLY      16    /* bytes of a tally */
@@ -97,7 +97,8 @@ enum sign_refusal {
 #define SIGN_USER_COUNT_AT   20  /* how many user characters are held, 0 to 16 */
 #define SIGN_CODES_AT        24  /* the codes of the 40 cells */
 #define SIGN_FONTS_AT        64  /* their fonts, 0 International or 1 Katakana */
-#define SIGN_USERS_AT        104 /* the user characters, oldest first: code, d1 to d5 */
+#define SIGN_USERS_AT        104 /* the user characters, oldest first: code, d1 to d5; a code that is
+                                    defined again becomes the youngest */
 #define SIGN_USER_BYTES      6   /* bytes of each */
 
 /* What is half received (SIGN_HALF_AT). docs/HOST.md says which bytes end each. */

@@ -1,4 +1,4 @@
-/* The fourteen cases of the bench sheet (document 01), pictures of two fonts (request W1), one refusal of
+/* The fifteen cases of the bench sheet (document 01 and request W3), pictures of two fonts (request W1), one refusal of
    each number, a wrong length that is refused unread, the places and names of sign.h, and what docs/HOST.md advises (what ends half a command,
    recovery), through the C functions. Prints ok, or what failed. */
 
@@ -118,6 +118,19 @@ static void bench_sheet(void) {
     memset(want, 0x20, sizeof want);
     const uint8_t fourteen[] = {0x1B, 0x48, 0x13};
     check("14", planned(plan(19), fourteen, sizeof fourteen));
+
+    uint8_t bytes[18 * 8] = {0};
+    for (int i = 0; i < 18; i++) {
+        const uint8_t define[] = {0x1B, 0x43, (uint8_t)(i < 16 ? 0x80 + i : i == 16 ? 0x80 : 0x90)};
+        memcpy(bytes + 8 * i, define, sizeof define);
+        if (i == 16) memset(bytes + 8 * i + 3, 5, 5);
+    }
+    after(bytes, sizeof bytes);
+    const uint8_t *users = block + SIGN_USERS_AT;
+    int held = block[SIGN_USER_COUNT_AT] == 16;
+    for (int i = 0; i < 14; i++) held &= users[SIGN_USER_BYTES * i] == 0x82 + i;
+    check("15", held && memcmp(users + 14 * SIGN_USER_BYTES, "\x80\5\5\5\5\5\x90\0\0\0\0", 2 * SIGN_USER_BYTES) == 0 && busy() == 990);
+    check("15: 80h is there, 81h is not", sign_dot(block, sizeof block, 0x80, 1) == 1 && sign_lit(block, sizeof block, 0x81) == SIGN_ASKED_REFUSED + SIGN_OUT_OF_RANGE);
 }
 
 /* A blank picture but for the first four cells: 41h to 44h, the first and third in Katakana. */
