@@ -111,12 +111,23 @@ static void put_mark(void) {
     if (sign.mark != IN_DOUBT) save(IN_DOUBT);
 }
 
-/* Are all settings made in this block? Then making them again changes nothing. */
+/* Has the block this user character, of whatever age? */
+static int has_user(const uint8_t *block, const uint8_t *user) {
+    for (int i = 0; i < block[SIGN_USER_COUNT_AT]; i++)
+        if (memcmp(block + SIGN_USERS_AT + SIGN_USER_BYTES * i, user, SIGN_USER_BYTES) == 0) return 1;
+    return 0;
+}
+
+/* Are all settings made in this block? Then making them again changes nothing, but that their user
+   characters become the youngest. */
 static int is_set(const struct state *s) {
     struct state again = *s;
     memset(again.tally, 0, SIGN_TALLY);
-    return run(&again, settings, sizeof settings) == 0
-        && memcmp(again.block, s->block, SIGN_BLOCK) == 0;
+    int same = run(&again, settings, sizeof settings) == 0
+            && memcmp(again.block, s->block, SIGN_USERS_AT) == 0;
+    for (int i = 0; same && i < again.block[SIGN_USER_COUNT_AT]; i++)
+        same = has_user(s->block, again.block + SIGN_USERS_AT + SIGN_USER_BYTES * i);
+    return same;
 }
 
 /* Takes block and tally from STATE. Answers NULL, or why there is doubt: then the block stays at

@@ -320,6 +320,24 @@ impl Bench {
         }
     }
 
+    /// A user character that came after the station's own is no other setting: nothing is made again.
+    /// Answers the codes that the module then has, the oldest first.
+    fn younger(&mut self) -> Vec<u8> {
+        let mut module = self.wire.module();
+        for b in inputs::define(0x02, [1, 2, 3, 4, 5]) {
+            module.take(b);
+        }
+        let mut state = self.saved();
+        state[1..TALLY_AT].copy_from_slice(&module.to_block());
+        fs::write(&self.state, state).expect("the state");
+        self.wire.put(module);
+        let _ = self.rest();
+        let now = self.wire.module();
+        let glass_is_right = !self.glass_is_wrong();
+        self.expect(glass_is_right, "the glass with a younger user character");
+        now.users[..now.count].iter().map(|u| u.code).collect()
+    }
+
     /// Now STATE.new is on a disk without room.
     fn fill_disk(&self) {
         assert!(Path::new("/dev/full").exists(), "this system has /dev/full");
@@ -452,6 +470,14 @@ fn main() {
     let untold = b.losses_untold();
     b.expect(untold > 0 || !boot_known, "a loss that nobody told is seen wrong");
     b.states();
+    let codes = b.younger();
+    b.expect(
+        codes == [b'>', 0x02] || !boot_known,
+        "with a younger user character nothing is made again",
+    );
+    b.touch_lost();
+    let told = b.rest().1;
+    b.judge("told, with a younger user character", told);
     b.disk_full();
     b.wires_and_pictures();
     fs::remove_dir_all(&directory).expect("the temporary directory");
