@@ -281,17 +281,20 @@ pub fn users_on_every_code() -> Vec<Vec<u8>> {
     all
 }
 
-/// 15 to 20 definitions, of which one is of a code defined before, at each age, with 14 to 16 held.
+/// 15 to 20 definitions, of which one is of a code defined before, at each age, with 14 to 16 held. The others are
+/// not on 1Bh, which would end all commands; once this code itself is 1Bh there is no other definition.
 pub fn redefinition_on(code: u8) -> Vec<Vec<u8>> {
+    let others: Vec<u8> = (1..=255).map(|d| code.wrapping_add(d)).filter(|&b| b != 0x1B).collect();
     let mut all = Vec::new();
-    for held in 14..=16u8 {
+    for held in 14..=16 {
         for age in 0..held {
             for new in 0..=3 {
-                let nth = |i: u8| code.wrapping_add(i).wrapping_sub(age);
-                let mut input: Vec<u8> = (0..held).flat_map(|i| define(nth(i), [i; 5])).collect();
-                input.extend(define(code, [0x5A, 0xA5, 0x5A, 0xA5, 0xF5]));
-                input.extend((held..held + new).flat_map(|i| define(nth(i), [i; 5])));
-                all.push(input);
+                let mut codes = others[..held - 1].to_vec();
+                codes.insert(age, code);
+                codes.push(code);
+                codes.extend_from_slice(&others[held - 1..held - 1 + new]);
+                let dots = |i: usize| [i as u8, 0x5A, 0xA5, !i as u8, 0xF0 + i as u8 % 16];
+                all.push(codes.iter().enumerate().flat_map(|(i, &b)| define(b, dots(i))).collect());
             }
         }
     }

@@ -1,6 +1,6 @@
 -- What the functions cite: a place that is found or that goes is in use, no code above 255 is found; a character is defined by the
 -- place that goes.
-use Prim.Native.Nat.{ℕ, zero, suc, _+_, _*_, _<_, _≤_}
+use Prim.Native.Nat.{ℕ, zero, suc, _+_, _*_, _/_, _<_, _≤_, min}
 use mathlib.Core.Path.{_≡_, refl, sym, ap, _∙_}
 use mathlib.Core.List.{List}
 use mathlib.Core.Bool.{Bool, true, false, cond}
@@ -23,6 +23,11 @@ place-below us code (suc n) k j e = go (eqb (getD us (k * 6) 0) code) e (λ h. p
         → j < k + suc n
     go true h l = let z : k ≡ j = cc in omega arith
     go false h l = let m : j < k + 1 + n = l h in omega arith
+
+-- of a count that is a byte, as many as are in use and as there are bytes for
+pub limit-byte : (us : List ℕ) (count : ℕ) → count ≤ 255 → limitOf us count ≡ min count (length us / 6)
+unfolding limitOf roomOf
+limit-byte us count h = omega arith
 
 -- a place that is found is in use
 pub found-below : (us : List ℕ) (count code j : ℕ) → foundIn us count code ≡ At j → j < limitOf us count

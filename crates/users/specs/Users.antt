@@ -59,7 +59,7 @@ placeAt us k =
     getD us (k * 6) 0 ∷ getD us (k * 6 + 1) 0 ∷ getD us (k * 6 + 2) 0 ∷ getD us (k * 6 + 3) 0 ∷ getD us (k * 6 + 4) 0
     ∷ getD us (k * 6 + 5) 0 ∷ []
 
--- a code and its five bytes, four of them held
+-- a code and its five bytes, four of them held; the fifth is `last`, as it is to be kept
 abbrev pub sixOf : ℕ → List ℕ → ℕ → List ℕ
 sixOf code held last = code ∷ getD held 0 0 ∷ getD held 1 0 ∷ getD held 2 0 ∷ getD held 3 0 ∷ last ∷ []
 
@@ -74,8 +74,7 @@ usersIn us count = record { bytes = us; count = count }
 abbrev pub inRoom : Users → Users
 inRoom u = usersIn (u .bytes) (limitOf (u .bytes) (u .count))
 
--- 43h code d1..d5 (01; 02, W3): one place is taken out, or none, and then the code comes last.
--- The place that goes: the code's own; where it has none, with all places in use, the oldest
+-- The place that goes when a code is defined: the code's own; where it has none, with all places in use, the oldest
 abbrev pub leavingBy : Found → Users → Found
 leavingBy (At k) u = At k
 leavingBy Missing u = cond (ltb (u .count) (roomOf (u .bytes))) Missing (At 0)
@@ -97,7 +96,8 @@ without (At k) u = usersIn (removed k (u .count - 1) (u .bytes)) (u .count - 1)
 unfoldable pub withYoungest : Users → ℕ → List ℕ → ℕ → Users
 withYoungest u code held last = usersIn (putOf (u .bytes) (u .count * 6) code held last) (u .count + 1)
 
--- both
+-- 43h code d1..d5. 01: a new one is youngest; with 16 held the oldest goes. 02, W3: a code defined again moves to the youngest
+-- place with its new bytes
 unfoldable pub defineOf : Users → ℕ → List ℕ → ℕ → Users
 defineOf u code held last = withYoungest (without (leavingOf u code) (inRoom u)) code held last
 

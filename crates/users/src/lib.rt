@@ -136,6 +136,7 @@ fn remove(bytes: &mut [u8], k: usize, last: usize)
 
 // A code with its five bytes comes last, the youngest. The place that it had is taken out, or, with all places in use, the
 // oldest; the others keep their order. Answers how many are held then. Bytes that have no room for a place stay as they are.
+// The fifth byte is held as given: its upper bits are dropped by the caller.
 pub fn define(bytes: &mut [u8], count: u8, code: u8, held: [u8; 4], last: u8) -> u8
     ensures { λ r. ⌜ usersIn (now (bytes .exit)) r ≡ defineIn (now (bytes .entry)) count code held last ⌝ }
 {
