@@ -7,14 +7,13 @@ use native.Mathlib.Omega.{arith}
 use lib.ListN.{length, set}
 use Rattle.users.specs.Users.{isUser, foundOf}
 use Rattle.users.specs.declared.Found.the-variants.{At}
-use Rattle.users.proofs.Places.{room-96}
 use Rattle.users.proofs.Again.{Again, again}
 use Rattle.condition.specs.declared.Condition.{Condition}
 use Rattle.condition.specs.declared.Pending.the-variants.{Nothing, Escape}
 use Rattle.condition.specs.Condition.{wellFormed}
 use Rattle.condition.specs.Set.{withPending}
 use Rattle.condition.specs.Bytes.{isChar, controlOf, escapeOf, dataOf, stepOf, stepAt, runOf}
-use Rattle.condition.proofs.Good.{Sized, good}
+use Rattle.condition.proofs.Good.{Sized, good, room-16}
 
 -- four bytes held, one after the other
 held-four : (h : List ℕ) (d1 d2 d3 d4 : ℕ) → length h ≡ 4 → set (set (set (set h 0 d1) 1 d2) 2 d3) 3 d4 ≡ d1 ∷ d2 ∷ d3 ∷ d4 ∷ []
@@ -36,6 +35,5 @@ pub redefined : (c : Condition) (k code d1 d2 d3 d4 d5 : ℕ) → Sized c → we
     (runOf c (0x1B ∷ 0x43 ∷ code ∷ d1 ∷ d2 ∷ d3 ∷ d4 ∷ d5 ∷ []) .users)
 unfolding runOf stepAt escapeOf dataOf
 redefined c k code d1 d2 d3 d4 d5 s w e u f =
-    let room = room-96 (c .users .bytes) (s .users-96) in
     rw (escaped c e u, held-four (c .held) d1 d2 d3 d4 (s .held-4))
-    (again (c .users) k code (d1 ∷ d2 ∷ d3 ∷ d4 ∷ []) (d5 % 16) (omega (arith, room, good c w .count-16)) f)
+    (again (c .users) k code (d1 ∷ d2 ∷ d3 ∷ d4 ∷ []) (d5 % 16) (omega (arith, room-16 c s, good c w .count-16)) f)

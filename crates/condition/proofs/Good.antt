@@ -9,7 +9,8 @@ use lib.ListN.{set, length, length-set}
 use borrow.Author.Tests.{leb-true, ltb-true, le-leb, lt-ltb}
 use Rattle.laws.proofs.Tests.{clash, both, by-test}
 use Rattle.row.proofs.Laws.{line-start-most, scrolled-40, shifted-40}
-use Rattle.users.proofs.Places.{room-96, define-length}
+use Rattle.users.specs.Users.{roomOf}
+use Rattle.users.proofs.Places.{room-for, define-length}
 use Rattle.condition.specs.declared.Condition.{Condition}
 use Rattle.condition.specs.declared.Pending.{Pending}
 use Rattle.condition.specs.declared.Pending.the-variants.{Nothing, Escape, Position, Luminance, Speed, UserCode, UserData}
@@ -105,6 +106,10 @@ pub record Sized (c : Condition) : Type 0 where
   pub users-96 : length (c .users .bytes) ≡ 96
   pub held-4 : length (c .held) ≡ 4
 
+-- 96 bytes have room for 16 user characters
+pub room-16 : (c : Condition) → Sized c → roomOf (c .users .bytes) ≡ 16
+room-16 c s = room-for (c .users .bytes) 16 (s .users-96) (omega arith)
+
 scroll-sized : (c : Condition) → Sized c → Sized (scrollOf c)
 unfolding scrollOf
 scroll-sized c s =
@@ -183,7 +188,7 @@ commands-sized c b s =
       user-data =
           λ code n e. by-test Sized (ltb n 4)
           (λ _. let l : length (set (c .held) n b) ≡ 4 = length-set (c .held) n b ∙ s .held-4 in search)
-          (λ _. let r = room-96 (c .users .bytes) (s .users-96) in
+          (λ _. let r = room-16 c s in
           let l = define-length (c .users) code (c .held) (b % 16) (omega arith) ∙ s .users-96 in search);
     }
 

@@ -11,7 +11,7 @@ use borrow.Author.Tests.{ltb-true, leb-true, le-leb, ne-eqb}
 use Rattle.laws.proofs.Tests.{both, neither, by-test}
 use Rattle.row.specs.Row.{lineStart, scrolled, shifted}
 use Rattle.users.specs.Users.{isUser}
-use Rattle.users.proofs.Places.{room-96, not-user, define-most}
+use Rattle.users.proofs.Places.{not-user, define-most}
 use Rattle.condition.specs.declared.Condition.{Condition}
 use Rattle.condition.specs.declared.Pending.{Pending}
 use Rattle.condition.specs.declared.Pending.the-variants.{Nothing, Escape, UserData}
@@ -24,7 +24,7 @@ use Rattle.condition.specs.Bytes.{positionOf, dataOf, stepOf, runOf}
 use Rattle.condition.proofs.Ranges.{up-to-set, up-to-append, up-to-cons, up-to-take, up-to-drop, up-to-replicate}
 use Rattle.condition.proofs.Users.{define-good, at-absent}
 use Rattle.condition.proofs.Each.{Commands, step-by, run-by}
-use Rattle.condition.proofs.Good.{Good, good, formed, Sized, step-sized}
+use Rattle.condition.proofs.Good.{Good, good, formed, Sized, room-16, step-sized}
 
 -- Power-up for font 0 or 1 is well formed ----------------------------------------------------------------------------------
 
@@ -205,7 +205,7 @@ data-kept c code n d s g e =
     let a = no-escape c g (rw e) in
     search)
     (λ _.
-    let r = room-96 (c .users .bytes) (s .users-96) in
+    let r = room-16 c s in
     let m = rw r at (define-most (c .users) code (c .held) (d % 16) (omega arith)) in
     let u = define-good (c .users) code (c .held) (d % 16) (s .users-96) (g .count-16) (omega arith) (g .users-good) in
     search)
@@ -216,7 +216,7 @@ pub escape-free : (c : Condition) → Sized c → Good c → isChar c 0x1B ≡ f
 unfolding isChar
 escape-free c s g e =
     at-absent 0x1B (c .users .count) (c .users .bytes)
-    (not-user (c .users) 0x1B (omega (arith, room-96 (c .users .bytes) (s .users-96), g .count-16))
+    (not-user (c .users) 0x1B (omega (arith, room-16 c s, g .count-16))
     (neither (isUser (c .users) 0x1B) _ e .0))
 
 pub commands-kept : (c : Condition) (b : ℕ) → Sized c → b < 256 → Good c → Commands Good c b

@@ -11,7 +11,7 @@ use borrow.Author.Tests.{ltb-true, eqb-false, not-true, lt-ltb, ne-eqb}
 use Rattle.laws.proofs.Tests.{both}
 use Rattle.users.specs.declared.Users.{Users}
 use Rattle.users.specs.Users.{defineOf}
-use Rattle.users.proofs.Places.{Places, room-96, define-places}
+use Rattle.users.proofs.Places.{Places, room-for, define-places}
 use Rattle.condition.specs.Condition.{absent, usersGood}
 use Rattle.condition.proofs.Ranges.{up-to-at, at-up-to}
 
@@ -94,6 +94,6 @@ pub define-good : (u : Users) (code : ℕ) (held : List ℕ) (last : ℕ) → le
     → u .count ≤ 16 → last < 16 → usersGood (u .count) (u .bytes) ≡ true
     → usersGood (defineOf u code held last .count) (defineOf u code held last .bytes) ≡ true
 define-good u code held last h l low e =
-    let r = room-96 (u .bytes) h in
+    let r = room-for (u .bytes) 16 h (omega arith) in
     users-formed (defineOf u code held last .count) (defineOf u code held last .bytes)
     (define-places 16 u code (omega arith) (places (u .count) (u .bytes) e) held last (omega arith) low)

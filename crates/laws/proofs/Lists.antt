@@ -4,8 +4,8 @@ use mathlib.Core.List.{List, [], _∷_, _++_}
 use Prim.Native.Nat.{ℕ, zero, suc, _+_, _-_, _≤_, _<_}
 use native.Mathlib.Nat.{add-zero}
 use native.Mathlib.Omega.{arith}
-use lib.ListN.{length, getD, take, drop, set, length-drop, length-set, take-append-drop}
-use lib.Seq.{sets, take-all, drop-drop, drop-cons, length-take-le, getD-set-same, getD-set-other}
+use lib.ListN.{length, getD, take, drop, set, length-drop, length-set, take-append-drop, List·getD-append}
+use lib.Seq.{sets, take-all, drop-drop, drop-cons, length-take-le, getD-set-same, getD-set-other, getD-append-add}
 
 -- the part of a list from a place on
 pub tail-part : (s : List ℕ) (at : ℕ) → take (length s - at) (drop at s) ≡ drop at s
@@ -18,6 +18,15 @@ part-length at n s h = length-take-le n (drop at s) (simp length-drop (omega ari
 -- a part, and what stands behind it
 pub cut : (at n : ℕ) (s : List ℕ) → drop at s ≡ take n (drop at s) ++ drop (at + n) s
 cut at n s = rw (← drop-drop n at s) (sym (take-append-drop n (drop at s)))
+
+-- what stands in the first of two lists, and in the second
+pub in-front : (xs ys : List ℕ) {n : ℕ} (i : ℕ) → length xs ≡ n → i < n → getD (xs ++ ys) i 0 ≡ getD xs i 0
+in-front xs ys i e h = List·getD-append xs ys 0 i (omega arith)
+
+pub behind : (xs ys : List ℕ) {n : ℕ} (i : ℕ) → length xs ≡ n → n ≤ i → getD (xs ++ ys) i 0 ≡ getD ys (i - n) 0
+behind xs ys {n} i e h =
+    let f : i ≡ length xs + (i - n) = omega arith in
+    ap (λ (x : ℕ). getD (xs ++ ys) x 0) f ∙ getD-append-add xs ys (i - n) 0
 
 -- n bytes from `at` on, one by one
 abbrev pub gets : ℕ → ℕ → List ℕ → List ℕ

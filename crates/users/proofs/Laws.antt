@@ -56,18 +56,17 @@ by-leaving u P Missing own free full =
     by-test P (ltb (u .count) (roomOf (u .bytes))) (λ t. free refl (ltb-true (u .count) (roomOf (u .bytes)) t))
     (λ t. full refl (omega (arith, ltb-false (u .count) (roomOf (u .bytes)) t)))
 
--- it is in use, which at most a byte's 255 are; where none goes, there is room for one more
+-- it is in use; where none goes, there is room for one more
 abbrev pub Fits : List ℕ → ℕ → Found → Type 0
-Fits us n (At k) = (k < n) × (n ≤ 255)
-Fits us n Missing = (n * 6 + 6 ≤ length us) × (n < 255)
+Fits us n (At k) = (k < n) × (n ≤ roomOf us)
+Fits us n Missing = n < roomOf us
 
-pub leaving-fits : (us : List ℕ) (count code n : ℕ) (f : Found) → 6 ≤ length us → n ≡ limitOf us count
+pub leaving-fits : (us : List ℕ) (count code n : ℕ) (f : Found) → 0 < roomOf us → n ≡ limitOf us count
     → f ≡ leavingOf (usersIn us count) code → Fits us n f
-unfolding limitOf roomOf
+unfolding limitOf
 leaving-fits us count code n f h l e =
     rw (e, l) (by-leaving (inRoom (usersIn us count)) (Fits us (limitOf us count)) (foundIn us count code)
-    (λ k found. (found-below us count code k found, omega arith)) (λ _ m. (omega arith, omega arith))
-    (λ _ m. (omega arith, omega arith)))
+    (λ k found. (found-below us count code k found, omega arith)) (λ _ m. m) (λ _ m. (omega arith, omega arith)))
 
 -- where there is room for a place, and by the place that goes
 pub defines : (us : List ℕ) (count code : ℕ) (held : List ℕ) (last n : ℕ) (f : Found) → 6 ≤ length us → n ≡ limitOf us count

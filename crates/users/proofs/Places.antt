@@ -1,6 +1,6 @@
 -- Places of six bytes: where a code stands, what a put changes, and that a definition keeps them well formed.
-use Prim.Native.Nat.{ℕ, zero, suc, _+_, _-_, _*_, _/_, _<_, _≤_}
-use mathlib.Core.Path.{_≡_, refl, sym, ap, _∙_}
+use Prim.Native.Nat.{ℕ, zero, suc, _+_, _-_, _*_, _<_, _≤_}
+use mathlib.Core.Path.{_≡_, refl, sym, _∙_}
 use mathlib.Core.List.{List}
 use mathlib.Core.Bool.{false}
 use native.Mathlib.Omega.{arith}
@@ -15,9 +15,9 @@ use Rattle.users.specs.declared.Users.{Users}
 use Rattle.users.specs.declared.Found.{Found}
 use Rattle.users.specs.declared.Found.the-variants.{Missing, At}
 use Rattle.users.specs.Users.{placeOf, roomOf, limitOf, foundIn, foundOf, isFound, isUser, sixOf, putOf}
-use Rattle.users.specs.Users.{inRoom, leavingOf, removed, without, withYoungest, defineOf}
+use Rattle.users.specs.Users.{usersIn, inRoom, leavingOf, removed, without, withYoungest, defineOf}
 use Rattle.users.proofs.Removal.{came, removed-length, left-at, rest-at}
-use Rattle.users.proofs.Laws.{found-below, by-leaving}
+use Rattle.users.proofs.Laws.{found-below, by-leaving, Fits, leaving-fits}
 
 -- Sizes ------------------------------------------------------------------------------------------------------------------------
 
@@ -25,10 +25,10 @@ pub put-length : (us : List ℕ) (at code : ℕ) (held : List ℕ) (last : ℕ) 
 unfolding putOf
 put-length us at code held last = length-sets us at (sixOf code held last)
 
--- 96 bytes have room for 16
-pub room-96 : (us : List ℕ) → length us ≡ 96 → roomOf us ≡ 16
+-- the bytes of n places have room for n
+pub room-for : (us : List ℕ) (n : ℕ) → length us ≡ n * 6 → n ≤ 255 → roomOf us ≡ n
 unfolding roomOf
-room-96 us h = let m : length us / 6 ≡ 16 = ap (λ (n : ℕ). n / 6) h in omega arith
+room-for us n h l = omega arith
 
 -- Where the lookup finds a code ---------------------------------------------------------------------------------------------
 
@@ -79,9 +79,9 @@ module _ (us : List ℕ) (at code : ℕ) (held : List ℕ) (last : ℕ) where
   put-there = sets-there us at (sixOf code held last)
 
 -- the code of a place, where one was taken out
-code-left : (us : List ℕ) (k last : ℕ) (h : k ≤ last) (l : last * 6 + 6 ≤ length us) (i : ℕ) → i < last
-    → getD (removed k last us) (i * 6) 0 ≡ getD us (came k i * 6) 0
-code-left us k last h l i m = simp add-zero at (left-at us k last h l i 0 m (omega arith))
+code-left : (us : List ℕ) (k youngest : ℕ) (h : k ≤ youngest) (l : youngest * 6 + 6 ≤ length us) (i : ℕ) → i < youngest
+    → getD (removed k youngest us) (i * 6) 0 ≡ getD us (came k i * 6) 0
+code-left us k youngest h l i m = simp add-zero at (left-at us k youngest h l i 0 m (omega arith))
 
 -- Well-formed places: each fifth byte below a bound, codes distinct, the rest 0 ---------------------------------------------------
 
@@ -94,17 +94,17 @@ pub record Places (bound n : ℕ) (l : List ℕ) : Type 0 where
 abbrev New : ℕ → ℕ → List ℕ → Type 0
 New code n l = (i : ℕ) → i < n → getD l (i * 6) 0 ≡ code → ⊥
 
--- one place taken out of those up to `last`
-removed-places : (bound n k last : ℕ) (l : List ℕ) → Places bound n l → n ≡ last + 1 → (h : k ≤ last) (m : last * 6 + 6 ≤ length l)
-    → Places bound last (removed k last l)
-removed-places bound n k last l p e h m =
+-- one place taken out of those up to the youngest
+removed-places : (bound n k youngest : ℕ) (l : List ℕ) → Places bound n l → n ≡ youngest + 1
+    → (h : k ≤ youngest) (m : youngest * 6 + 6 ≤ length l) → Places bound youngest (removed k youngest l)
+removed-places bound n k youngest l p e h m =
     record {
-      fifth = λ i g. rw (left-at l k last h m i 5 g (omega arith)) (p .fifth (came k i) (omega arith));
+      fifth = λ i g. rw (left-at l k youngest h m i 5 g (omega arith)) (p .fifth (came k i) (omega arith));
       apart =
           λ i j g f d.
-          let same = sym (code-left l k last h m i g) ∙ d ∙ code-left l k last h m j f in
+          let same = sym (code-left l k youngest h m i g) ∙ d ∙ code-left l k youngest h m j f in
           omega (arith, p .apart (came k i) (came k j) (omega arith) (omega arith) same);
-      rest = rest-at l k last h m (λ i g. p .rest i (omega arith));
+      rest = rest-at l k youngest h m (λ i g. p .rest i (omega arith));
     }
 
 -- a new code put last
@@ -135,67 +135,65 @@ module _ (bound n code : ℕ) (l held : List ℕ) (last : ℕ) (p : Places bound
 -- A user character that is defined keeps the places well formed -----------------------------------------------------------------
 
 -- places ready for a code: well formed, none of them with the code, and room for one more
-record Made (bound code : ℕ) (u : Users) : Type 0 where
+record Ready (bound code : ℕ) (u : Users) : Type 0 where
   places : Places bound (u .count) (u .bytes)
   new : New code (u .count) (u .bytes)
   fits : u .count * 6 + 6 ≤ length (u .bytes)
 
-module _ (bound : ℕ) (u : Users) (code : ℕ) (l : u .count ≤ roomOf (u .bytes)) (p : Places bound (u .count) (u .bytes)) where
+module _ (bound : ℕ) (us : List ℕ) (count code : ℕ) (l : count ≤ roomOf us) (p : Places bound count us) where
   -- the place k is taken out, and no other has the code
-  made-at : (k : ℕ) → k < u .count → ((i : ℕ) → i < u .count → getD (u .bytes) (i * 6) 0 ≡ code → i ≡ k)
-      → Made bound code (without (At k) u)
+  ready-at : (k : ℕ) → k < count → ((i : ℕ) → i < count → getD us (i * 6) 0 ≡ code → i ≡ k)
+      → Ready bound code (without (At k) (usersIn us count))
   unfolding without roomOf
-  made-at k h only =
-      let last = u .count - 1 in
-      let f : k ≤ last = omega arith in
-      let m : last * 6 + 6 ≤ length (u .bytes) = omega arith in
+  ready-at k h only =
+      let youngest = count - 1 in
+      let f : k ≤ youngest = omega arith in
+      let m : youngest * 6 + 6 ≤ length us = omega arith in
       record {
-        places = removed-places bound (u .count) k last (u .bytes) p (omega arith) f m;
-        new = λ i g y. omega (arith, only (came k i) (omega arith) (sym (code-left (u .bytes) k last f m i g) ∙ y));
-        fits = rw (removed-length (u .bytes) k last f m) m;
+        places = removed-places bound count k youngest us p (omega arith) f m;
+        new = λ i g y. omega (arith, only (came k i) (omega arith) (sym (code-left us k youngest f m i g) ∙ y));
+        fits = rw (removed-length us k youngest f m) m;
       }
 
-  made : 0 < roomOf (u .bytes) → Made bound code (without (leavingOf u code) (inRoom u))
+  ready : 0 < roomOf us → Ready bound code (without (leavingOf (usersIn us count) code) (inRoom (usersIn us count)))
   unfolding without roomOf
-  made r =
-      rw (limit-count (u .bytes) (u .count) l) (by-leaving u (λ (f : Found). Made bound code (without f u)) (foundOf u code)
-      (λ k e. let f = found-holds (u .bytes) (u .count) l code k e in
-      made-at k (f .0) (λ i m y. p .apart i k m (f .0) (y ∙ sym (f .1))))
-      (λ e m. record { places = p; new = found-misses (u .bytes) (u .count) l code e; fits = omega arith })
-      (λ e m. made-at 0 (omega arith) (λ i n y. absurd (found-misses (u .bytes) (u .count) l code e i n y))))
+  ready r =
+      rw (limit-count us count l) (by-leaving (usersIn us count) (λ (f : Found). Ready bound code (without f (usersIn us count)))
+      (foundIn us count code)
+      (λ k e. let f = found-holds us count l code k e in ready-at k (f .0) (λ i m y. p .apart i k m (f .0) (y ∙ sym (f .1))))
+      (λ e m. record { places = p; new = found-misses us count l code e; fits = omega arith })
+      (λ e m. ready-at 0 (omega arith) (λ i n y. absurd (found-misses us count l code e i n y))))
 
-  pub define-places : (held : List ℕ) (last : ℕ) → 0 < roomOf (u .bytes) → last < bound
-      → Places bound (defineOf u code held last .count) (defineOf u code held last .bytes)
-  unfolding defineOf withYoungest
-  define-places held last r low =
-      let m = made r in
-      put-places bound _ code _ held last (m .places) (m .new) (m .fits) low
+pub define-places : (bound : ℕ) (u : Users) (code : ℕ) → u .count ≤ roomOf (u .bytes) → Places bound (u .count) (u .bytes)
+    → (held : List ℕ) (last : ℕ) → 0 < roomOf (u .bytes) → last < bound
+    → Places bound (defineOf u code held last .count) (defineOf u code held last .bytes)
+unfolding defineOf withYoungest
+define-places bound u code l p held last r low =
+    let m = ready bound (u .bytes) (u .count) code l p r in
+    put-places bound _ code _ held last (m .places) (m .new) (m .fits) low
 
 -- How many there are then, and in how many bytes ----------------------------------------------------------------------------------
 
+without-fits : (u : Users) (f : Found) → Fits (u .bytes) (u .count) f
+    → (without f u .count < roomOf (u .bytes)) × (length (without f u .bytes) ≡ length (u .bytes))
+unfolding without roomOf
+without-fits u (At k) h = (omega arith, removed-length (u .bytes) k (u .count - 1) (omega arith) (omega arith))
+without-fits u Missing h = (h, refl)
+
+left-fits : (u : Users) (code : ℕ) → 0 < roomOf (u .bytes)
+    → (without (leavingOf u code) (inRoom u) .count < roomOf (u .bytes))
+    × (length (without (leavingOf u code) (inRoom u) .bytes) ≡ length (u .bytes))
+left-fits u code r = without-fits (inRoom u) (leavingOf u code) (leaving-fits (u .bytes) (u .count) code _ _ r refl refl)
+
 pub define-most : (u : Users) (code : ℕ) (held : List ℕ) (last : ℕ) → 0 < roomOf (u .bytes)
     → defineOf u code held last .count ≤ roomOf (u .bytes)
-unfolding defineOf withYoungest without limitOf
-define-most u code held last r =
-    by-leaving (inRoom u) (λ (f : Found). without f (inRoom u) .count + 1 ≤ roomOf (u .bytes)) (foundOf u code)
-    (λ k e. omega (arith, found-below (u .bytes) (u .count) code k e)) (λ _ m. omega arith) (λ _ m. omega arith)
-
-without-length : (u : Users) (code : ℕ) → 0 < roomOf (u .bytes)
-    → length (without (leavingOf u code) (inRoom u) .bytes) ≡ length (u .bytes)
-unfolding without limitOf roomOf
-without-length u code r =
-    by-leaving (inRoom u) (λ (f : Found). length (without f (inRoom u) .bytes) ≡ length (u .bytes)) (foundOf u code)
-    (λ k e. let m = found-below (u .bytes) (u .count) code k e in
-    removed-length (u .bytes) k (limitOf (u .bytes) (u .count) - 1) (omega arith) (omega arith))
-    (λ _ _. refl)
-    (λ _ m. removed-length (u .bytes) 0 (limitOf (u .bytes) (u .count) - 1) (omega arith) (omega arith))
+unfolding defineOf withYoungest
+define-most u code held last r = omega (arith, left-fits u code r .0)
 
 pub define-length : (u : Users) (code : ℕ) (held : List ℕ) (last : ℕ) → 0 < roomOf (u .bytes)
     → length (defineOf u code held last .bytes) ≡ length (u .bytes)
 unfolding defineOf withYoungest
-define-length u code held last r =
-    let v : Users = without (leavingOf u code) (inRoom u) in
-    put-length (v .bytes) (v .count * 6) code held last ∙ without-length u code r
+define-length u code held last r = put-length _ _ code held last ∙ left-fits u code r .1
 
 -- a code on which no user character sits stands in no place
 pub not-user : (u : Users) (code : ℕ) → u .count ≤ roomOf (u .bytes) → isUser u code ≡ false

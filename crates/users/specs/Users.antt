@@ -55,9 +55,7 @@ characterAt us k =
 
 -- the six bytes of a place: its code and its five bytes
 abbrev pub placeAt : List ℕ → ℕ → List ℕ
-placeAt us k =
-    getD us (k * 6) 0 ∷ getD us (k * 6 + 1) 0 ∷ getD us (k * 6 + 2) 0 ∷ getD us (k * 6 + 3) 0 ∷ getD us (k * 6 + 4) 0
-    ∷ getD us (k * 6 + 5) 0 ∷ []
+placeAt us k = take 6 (drop (k * 6) us)
 
 -- a code and its five bytes, four of them held; the fifth is `last`, as it is to be kept
 abbrev pub sixOf : ℕ → List ℕ → ℕ → List ℕ
@@ -82,10 +80,10 @@ leavingBy Missing u = cond (ltb (u .count) (roomOf (u .bytes))) Missing (At 0)
 abbrev pub leavingOf : Users → ℕ → Found
 leavingOf u code = leavingBy (foundOf u code) (inRoom u)
 
--- the place k taken out of those up to `last`: what stands before it, what stands after it, a place of 0, and the rest
+-- the place k taken out of those up to the youngest: what stands before it, what stands after it, a place of 0, and the rest
 unfoldable pub removed : ℕ → ℕ → List ℕ → List ℕ
-removed k last us =
-    take (k * 6) us ++ take ((last - k) * 6) (drop (k * 6 + 6) us) ++ replicate 6 0 ++ drop (last * 6 + 6) us
+removed k youngest us =
+    take (k * 6) us ++ take ((youngest - k) * 6) (drop (k * 6 + 6) us) ++ replicate 6 0 ++ drop (youngest * 6 + 6) us
 
 -- without the place that goes: those after it are each one place earlier, so that no gap is left
 unfoldable pub without : Found → Users → Users

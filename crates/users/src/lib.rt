@@ -1,8 +1,9 @@
-// Up to 16 user characters in 96 bytes: a place is a code and five bytes, the oldest first.
+// User characters in places of six bytes, a code and five bytes, the oldest first. A condition has 16 places.
 ghost use mathlib.Core.Path.{_≡_};
 ghost use Prim.Native.Nat.{_+_, _*_, _≤_};
 ghost use lib.ListN.{length};
-ghost use Rattle.users.specs.Users.{roomOf, limitOf, foundIn, isFound, characterAt, putOf, usersIn, leavingOf, removed, defineIn};
+ghost use Rattle.users.specs.Users.{roomOf, limitOf, foundIn, isFound, characterAt, putOf};
+ghost use Rattle.users.specs.Users.{usersIn, leavingOf, removed, defineIn};
 use dots::Character;
 
 pub struct Users {
@@ -40,9 +41,9 @@ fn room(bytes: &[u8]) -> usize
 fn limit(bytes: &[u8], count: u8) -> usize
     ensures { λ r. ⌜ (r ≡ limitOf (now (bytes .entry)) count) × (6 * r ≤ length (now (bytes .entry))) ⌝ }
 {
-    let room = bytes.len() / Users::PLACE;
+    let places = bytes.len() / Users::PLACE;
     let n = count as usize;
-    if n < room { n } else { room }
+    if n < places { n } else { places }
 }
 
 // The place of a code among the first `count`.
@@ -119,19 +120,19 @@ fn leaving(bytes: &[u8], count: u8, code: u8) -> Found
     }
 }
 
-// Takes the place k out of those up to `last`: each later one moves to the place before it, and `last` is 0.
-fn remove(bytes: &mut [u8], k: usize, last: usize)
-    requires { ⌜ (k ≤ last) × (last * 6 + 6 ≤ length (now bytes)) ⌝ }
-    ensures { λ _. ⌜ now (bytes .exit) ≡ removed k last (now (bytes .entry)) ⌝ }
+// Takes the place k out of those up to the youngest: each later one moves to the place before it, and the last is 0.
+fn remove(bytes: &mut [u8], k: usize, youngest: usize)
+    requires { ⌜ (k ≤ youngest) × (youngest * 6 + 6 ≤ length (now bytes)) ⌝ }
+    ensures { λ _. ⌜ now (bytes .exit) ≡ removed k youngest (now (bytes .entry)) ⌝ }
 {
     let mut i = k;
-    while i < last {
+    while i < youngest {
         let at = i * Users::PLACE;
         row::advance(&mut bytes[at..at + Users::TWO], Users::PLACE);
         i += 1;
     }
-    let end = last * Users::PLACE;
-    row::clear(&mut bytes[end..end + Users::PLACE], 0);
+    let at = youngest * Users::PLACE;
+    row::clear(&mut bytes[at..at + Users::PLACE], 0);
 }
 
 // A code with its five bytes comes last, the youngest. The place that it had is taken out, or, with all places in use, the
@@ -145,9 +146,9 @@ pub fn define(bytes: &mut [u8], count: u8, code: u8, held: [u8; 4], last: u8) ->
     }
     let n = limit(bytes, count);
     if let Found::At(k) = leaving(bytes, count, code) {
-        let end = n - 1;
-        remove(bytes, k, end);
-        put(bytes, end * Users::PLACE, code, held, last);
+        let youngest = n - 1;
+        remove(bytes, k, youngest);
+        put(bytes, youngest * Users::PLACE, code, held, last);
         return n as u8;
     }
     put(bytes, n * Users::PLACE, code, held, last);

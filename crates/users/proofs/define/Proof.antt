@@ -1,7 +1,7 @@
 use Prim.Native.Nat.{_+_, _-_}
 use mathlib.Core.Path.{_≡_, sym, ap, _∙_}
 use native.Mathlib.Omega.{arith}
-use Rattle.users.specs.Users.{usersIn, without, withYoungest, defineIn}
+use Rattle.users.specs.Users.{roomOf, usersIn, without, withYoungest, defineIn}
 use Rattle.users.specs.declared.Found.{Found}
 use Rattle.users.specs.declared.Found.the-variants.{Missing, At}
 use Rattle.users.proofs.Laws.{Fits, leaving-fits, defines}
@@ -26,10 +26,11 @@ enum-known-k c = search needs
 -- the place that goes is in use; where none goes, there is room for one more
 fits : (l : tie.After-leaving) (f : Found) → l .leaving .result ≡ f
     → Fits (l .before .before .before .before .before .before .args .bytes .now) (l .before .before .limit .result) f
-fits l f e = leaving-fits _ _ _ _ f (search needs) (l .before .before .limit .ensures .0) (sym e ∙ l .leaving .ensures)
+unfolding roomOf
+fits l f e = leaving-fits _ _ _ _ f (omega arith) (l .before .before .limit .ensures .0) (sym e ∙ l .leaving .ensures)
 
-sub-end : tie.Need-sub-end
-sub-end c = omega (arith, fits (c .before .before .before) (At _) (c .before .k .given .1))
+sub-youngest : tie.Need-sub-youngest
+sub-youngest c = omega (arith, fits (c .before .before .before) (At _) (c .before .k .given .1))
 
 remove-requires : tie.Need-remove-requires
 remove-requires c κs =
@@ -48,6 +49,7 @@ put-requires c κs =
     omega (arith, fits (k .before .before) (At _) (k .k .given .1), k .before .before .before .before .limit .ensures)
 
 cast-result : tie.Need-cast-result
+unfolding roomOf
 cast-result c =
     let k = c .before .before .before .before .before .before .before .before .before in
     omega (arith, fits (k .before .before) (At _) (k .k .given .1))
@@ -73,12 +75,14 @@ mul-put-2 : tie.Need-mul-put-2
 mul-put-2 c = search needs
 
 put-requires-2 : tie.Need-put-requires-2
-put-requires-2 c κs = fits (c .before .before .before) Missing (c .before .enum-told .given .1) .0
+unfolding roomOf
+put-requires-2 c κs = omega (arith, fits (c .before .before .before) Missing (c .before .enum-told .given .1))
 
 add-result : tie.Need-add-result
 add-result c = search needs
 
 cast-result-2 : tie.Need-cast-result-2
+unfolding roomOf
 cast-result-2 c =
     let t = c .before .before .before .before in
     omega (arith, fits (t .before .before) Missing (t .enum-told .given .1))
@@ -103,7 +107,7 @@ define-spec =
     limit-requires
     leaving-requires
     enum-known-k
-    sub-end
+    sub-youngest
     remove-requires
     mul-put
     put-requires

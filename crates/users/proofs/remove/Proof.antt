@@ -1,30 +1,23 @@
 use Prim.Native.Nat.{_+_, _-_, _*_, _≤_}
-use mathlib.Core.Path.{_≡_, refl}
+use mathlib.Core.Path.{_≡_, refl, _∙_}
 use native.Mathlib.Omega.{arith}
-use lib.ListN.{length, drop}
-use lib.Seq.{paste-zero}
-use Rattle.users.proofs.Removal.{closing, remove-turn, remove-law}
+use lib.ListN.{length}
+use Rattle.users.specs.Users.{removed}
+use Rattle.users.proofs.Removal.{remove-turn, remove-law}
 use borrow.Author.Needs.{needs}
 use Rattle.users.proofs.remove.Statement.{statement}
 use Rattle.users.proofs.remove.Tie as tie
 
 abbrev Inv-loop : tie.InvT-loop
-Inv-loop bytes₀ k last i₀ bytes i =
-    (k ≤ i) × (i ≤ last) × (bytes ≡ closing bytes₀ k i) × (length bytes ≡ length bytes₀) × (last * 6 + 6 ≤ length bytes₀)
+Inv-loop bytes₀ k youngest i₀ bytes i =
+    (i ≤ youngest) × (removed i youngest bytes ≡ removed k youngest bytes₀) × (length bytes ≡ length bytes₀)
+    × (youngest * 6 + 6 ≤ length bytes₀)
 
 abbrev μ-loop : tie.MeasureT-loop
-μ-loop bytes₀ k last i₀ bytes i = last - i
+μ-loop bytes₀ k youngest i₀ bytes i = youngest - i
 
 loop-holds : tie.Need-loop-holds Inv-loop μ-loop
-loop-holds c =
-    let a = c .before .args in
-    let e : (a .k - a .k) * 6 ≡ 0 = omega arith in (
-      omega arith,
-      search needs,
-      rw e (paste-zero (a .bytes .now) (a .k * 6) (drop (a .k * 6 + 6) (a .bytes .now))),
-      refl,
-      search needs,
-    )
+loop-holds c = (search needs, refl, refl, search needs)
 
 mul-at : tie.Need-mul-at Inv-loop μ-loop
 mul-at c = omega arith
@@ -56,15 +49,15 @@ loop-again c =
     let a = c .before .before .before .before .before .before .before .args in
     let n = l .i * 6 + 12 - l .i * 6 in (
       omega arith,
-      omega arith,
-      remove-turn (a .bytes .now) (l .bytes) (a .k) (l .i) (l .inv .2) (l .inv .0) (omega arith) _ n (omega arith) (omega arith)
-          (c .before .before .advance .ensures),
+      remove-turn (l .bytes) (l .i) (a .youngest) (omega arith) _ n (omega arith) (omega arith)
+          (c .before .before .advance .ensures)
+          ∙ l .inv .1,
       search needs,
-      l .inv .4,
+      l .inv .3,
     )
 
-mul-end : tie.Need-mul-end Inv-loop μ-loop
-mul-end c = omega arith
+mul-at-2 : tie.Need-mul-at-2 Inv-loop μ-loop
+mul-at-2 c = omega arith
 
 add-clear : tie.Need-add-clear Inv-loop μ-loop
 add-clear c = omega arith
@@ -88,10 +81,10 @@ returns : tie.Need-returns Inv-loop μ-loop
 returns c =
     let l = c .before .before .before .before .before .loop in
     let a = c .before .before .before .before .before .before .before .args in
-    let e : l .i ≡ a .last = omega arith in
-    let n = a .last * 6 + 6 - a .last * 6 in
-    remove-law (a .bytes .now) (l .bytes) (a .k) (a .last) (rw e at (l .inv .2)) (omega arith) (l .inv .4) _ n (omega arith)
-    (c .before .before .clear .ensures)
+    let e : l .i ≡ a .youngest = omega arith in
+    let n = a .youngest * 6 + 6 - a .youngest * 6 in
+    remove-law (l .bytes) (a .youngest) (a .youngest) (omega arith) _ n (omega arith) refl (c .before .before .clear .ensures)
+    ∙ rw e at (l .inv .1)
 
 pub remove-spec : {M : Type 1} → statement M
 remove-spec =
@@ -109,7 +102,7 @@ remove-spec =
     add-i
     loop-less
     loop-again
-    mul-end
+    mul-at-2
     add-clear
     sub-clear
     part-clear-start
