@@ -608,7 +608,7 @@ fn random_plans(h: &mut Host, cases: usize) {
     }
 }
 
-/// Codes defined again: each code (but 1Bh, which ends all commands), at each age.
+/// Codes defined again: each code, at each age (on 1Bh the second definition is text).
 fn redefinitions(h: &mut Host) {
     for code in 0..=255 {
         for bytes in inputs::redefinition_on(code) {

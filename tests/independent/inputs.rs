@@ -282,7 +282,7 @@ pub fn users_on_every_code() -> Vec<Vec<u8>> {
 }
 
 /// 15 to 20 definitions, of which one is of a code defined before, at each age, with 14 to 16 held. The others are
-/// not on 1Bh, which would end all commands; once this code itself is 1Bh there is no other definition.
+/// not on 1Bh, which would end all commands; where this code is 1Bh no definition comes after its first.
 pub fn redefinition_on(code: u8) -> Vec<Vec<u8>> {
     let others: Vec<u8> = (1..=255).map(|d| code.wrapping_add(d)).filter(|&b| b != 0x1B).collect();
     let mut all = Vec::new();
@@ -293,8 +293,8 @@ pub fn redefinition_on(code: u8) -> Vec<Vec<u8>> {
                 codes.insert(age, code);
                 codes.push(code);
                 codes.extend_from_slice(&others[held - 1..held - 1 + new]);
-                let dots = |i: usize| [i as u8, 0x5A, 0xA5, !i as u8, 0xF0 + i as u8 % 16];
-                all.push(codes.iter().enumerate().flat_map(|(i, &b)| define(b, dots(i))).collect());
+                let defined = |(i, &b): (usize, &u8)| define(b, [i as u8, 0x5A, 0xA5, !i as u8, 0xF0 + i as u8 % 16]);
+                all.push(codes.iter().enumerate().flat_map(defined).collect());
             }
         }
     }

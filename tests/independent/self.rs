@@ -1,5 +1,5 @@
 //! The independent program alone: the fifteen cases of the bench sheet, the sample, and the rules of
-//! document 01 and of requests W1 and W2 that it can be held to by itself. It uses nothing of the product.
+//! document 01 and of requests W1 to W3 that it can be held to by itself. It uses nothing of the product.
 
 mod inputs;
 mod module;

@@ -286,7 +286,7 @@ impl Bench {
     /// out: the block is right then, and it is taken.)
     fn states(&mut self) {
         let faults = "missing, empty, short, long, with a tally of 12 bytes, marked, damaged, random, \
-                      of other settings, of another J6, of another TTY, of a TTY with a longer path, \
+                      of other settings, of other dots, of another J6, of another TTY, of a TTY with a longer path, \
                       of another boot, of no boot";
         for fault in std::iter::repeat(faults).take(4).flat_map(|f| f.split(", ")) {
             let mut state = self.saved();
@@ -303,6 +303,11 @@ impl Bench {
                 }
                 "random" => state = self.rng.bytes(STATE_SIZE),
                 "of other settings" => state[1..TALLY_AT].copy_from_slice(&Condition::power_up(self.j6).to_block()),
+                "of other dots" => {
+                    let mut c = self.wire.module();
+                    inputs::define(b'>', [1; 5]).iter().for_each(|&b| drop(c.take(b)));
+                    state[1..TALLY_AT].copy_from_slice(&c.to_block());
+                }
                 "of another J6" => self.j6 = 1 - self.j6,
                 "of another TTY" => state[path_end - 1] ^= 1,
                 "of a TTY with a longer path" => state[path_end] = b'0',

@@ -7,4 +7,4 @@ pub mod Users
 pub mod Good
 pub mod Kept
 pub mod Pieces
-pub mod Again
+pub mod Redefined

@@ -1,4 +1,4 @@
-pub mod Again
 pub mod Laws
 pub mod Places
 pub mod Removal
+pub mod Replaced

@@ -1,4 +1,5 @@
--- User characters (document 01, The condition): up to 16, code and five bytes, oldest first, in places of six bytes.
+-- User characters (document 01, The condition): code and five bytes, oldest first, in places of six bytes, as many as the bytes
+-- have room for: 16 in a condition.
 use Prim.Native.Nat.{ℕ, zero, suc, _+_, _-_, _*_, _/_, min}
 use mathlib.Core.List.{List, [], _∷_, _++_}
 use mathlib.Core.Bool.{Bool, true, false, cond}

@@ -12,7 +12,7 @@ pub struct Users {
 }
 
 impl Users {
-    // How many there may be, the bytes of a place, and those of all places.
+    // How many a condition has room for, the bytes of a place, and those of all places of a condition.
     pub const MOST: u8 = 16;
 
     pub const PLACE: usize = 6;
@@ -120,7 +120,8 @@ fn leaving(bytes: &[u8], count: u8, code: u8) -> Found
     }
 }
 
-// Takes the place k out of those up to the youngest: each later one moves to the place before it, and the last is 0.
+// Takes the place k out of those up to the youngest: each later one moves to the place before it, and the
+// youngest place is 0.
 fn remove(bytes: &mut [u8], k: usize, youngest: usize)
     requires { ⌜ (k ≤ youngest) × (youngest * 6 + 6 ≤ length (now bytes)) ⌝ }
     ensures { λ _. ⌜ now (bytes .exit) ≡ removed k youngest (now (bytes .entry)) ⌝ }
@@ -135,9 +136,9 @@ fn remove(bytes: &mut [u8], k: usize, youngest: usize)
     row::clear(&mut bytes[at..at + Users::PLACE], 0);
 }
 
-// A code with its five bytes comes last, the youngest. The place that it had is taken out, or, with all places in use, the
-// oldest; the others keep their order. Answers how many are held then. Bytes that have no room for a place stay as they are.
-// The fifth byte is held as given: its upper bits are dropped by the caller.
+// A code with its five bytes comes last, the youngest. The place that it had is taken out; where it had none and all places are
+// in use, the oldest. The others keep their order. Answers how many are held then. Bytes that have no room for a place stay as
+// they are. The fifth byte is held as given: its top bits are dropped by the caller.
 pub fn define(bytes: &mut [u8], count: u8, code: u8, held: [u8; 4], last: u8) -> u8
     ensures { λ r. ⌜ usersIn (now (bytes .exit)) r ≡ defineIn (now (bytes .entry)) count code held last ⌝ }
 {

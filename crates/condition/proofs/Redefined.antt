@@ -7,7 +7,7 @@ use native.Mathlib.Omega.{arith}
 use lib.ListN.{length, set}
 use Rattle.users.specs.Users.{isUser, foundOf}
 use Rattle.users.specs.declared.Found.the-variants.{At}
-use Rattle.users.proofs.Again.{Again, again}
+use Rattle.users.proofs.Replaced.{Replaced, again}
 use Rattle.condition.specs.declared.Condition.{Condition}
 use Rattle.condition.specs.declared.Pending.the-variants.{Nothing, Escape}
 use Rattle.condition.specs.Condition.{wellFormed}
@@ -31,7 +31,7 @@ escaped c e u = rw (e, u)
 
 pub redefined : (c : Condition) (k code d1 d2 d3 d4 d5 : ℕ) → Sized c → wellFormed c ≡ true → c .pending ≡ Nothing
     → isUser (c .users) 0x1B ≡ false → foundOf (c .users) code ≡ At k
-    → Again (c .users) k code (d1 ∷ d2 ∷ d3 ∷ d4 ∷ []) (d5 % 16)
+    → Replaced (c .users) k code (d1 ∷ d2 ∷ d3 ∷ d4 ∷ []) (d5 % 16)
     (runOf c (0x1B ∷ 0x43 ∷ code ∷ d1 ∷ d2 ∷ d3 ∷ d4 ∷ d5 ∷ []) .users)
 unfolding runOf stepAt escapeOf dataOf
 redefined c k code d1 d2 d3 d4 d5 s w e u f =

@@ -1,5 +1,5 @@
 -- A place that goes when a code is defined (01; 02, W3): the code comes last with its new bytes, the others keep their order, and
--- nothing else is dropped. It goes where the code is defined again, and where all places are in use.
+-- nothing else is dropped. A place goes where the code is defined again, and where a new one finds all places in use.
 use Prim.Native.Nat.{ℕ, _+_, _-_, _*_, _<_, _≤_}
 use mathlib.Core.Path.{_≡_, refl, sym, ap, _∙_}
 use mathlib.Core.List.{List}
@@ -16,8 +16,8 @@ use Rattle.users.proofs.Laws.{leaving-fits}
 use Rattle.users.proofs.Removal.{came, removed-length, left-at}
 use Rattle.users.proofs.Places.{limit-count, found-holds, put-length, put-else, put-there}
 
--- v is u with the place k taken out, and last the code with its new bytes
-pub record Again (u : Users) (k code : ℕ) (held : List ℕ) (last : ℕ) (v : Users) : Type 0 where
+-- v is u with the place k taken out, and the code with its new bytes in the youngest place
+pub record Replaced (u : Users) (k code : ℕ) (held : List ℕ) (last : ℕ) (v : Users) : Type 0 where
   pub count : v .count ≡ u .count
   pub older : (i : ℕ) → i < k → placeAt (v .bytes) i ≡ placeAt (u .bytes) i
   pub younger : (i : ℕ) → k ≤ i → i + 1 < u .count → placeAt (v .bytes) i ≡ placeAt (u .bytes) (i + 1)
@@ -66,7 +66,7 @@ module _ (u : Users) (k code : ℕ) (held : List ℕ) (last : ℕ) (l : u .count
       ∙ left-at (u .bytes) k (u .count - 1) (omega (arith, in-use)) there i j h m
       ∙ sym (getD-take 6 (drop (came k i * 6) (u .bytes)) j 0 m ∙ getD-drop (came k i * 6) (u .bytes) j 0))
 
-  pub replaced : Again u k code held last (defineOf u code held last)
+  pub replaced : Replaced u k code held last (defineOf u code held last)
   replaced =
       let f = in-use in
       rw moved (record {
@@ -78,15 +78,15 @@ module _ (u : Users) (k code : ℕ) (held : List ℕ) (last : ℕ) (l : u .count
             (λ j. put-there left ((u .count - 1) * 6) code held last j (omega (arith, left-length, there)));
       })
 
--- the code's own place
+-- a code defined again: its own place goes
 pub again : (u : Users) (k code : ℕ) (held : List ℕ) (last : ℕ) → u .count ≤ roomOf (u .bytes) → foundOf u code ≡ At k
-    → Again u k code held last (defineOf u code held last)
+    → Replaced u k code held last (defineOf u code held last)
 again u k code held last l e =
     replaced u k code held last l (omega (arith, found-holds (u .bytes) (u .count) l code k e)) (rw e)
 
--- a new code, with all places in use: the oldest
+-- a new code, with all places in use: the oldest goes
 pub full : (u : Users) (code : ℕ) (held : List ℕ) (last : ℕ) → u .count ≡ roomOf (u .bytes) → 0 < roomOf (u .bytes)
-    → foundOf u code ≡ Missing → Again u 0 code held last (defineOf u code held last)
+    → foundOf u code ≡ Missing → Replaced u 0 code held last (defineOf u code held last)
 full u code held last l r e =
     let m = limit-count (u .bytes) (u .count) (omega arith) in
     replaced u 0 code held last (omega arith) r (rw (e, m, le-ltb (u .count) (roomOf (u .bytes)) (omega arith)))
