@@ -1,10 +1,11 @@
 -- A code defined again (document 02, W3), as the bytes on the wire: 1B 43 code d1 d2 d3 d4 d5.
-use Prim.Native.Nat.{ℕ, _%_}
-use mathlib.Core.Path.{_≡_, refl}
+use Prim.Native.Nat.{ℕ, _≤_, _%_}
+use mathlib.Core.Path.{_≡_, _∙_}
 use mathlib.Core.Bool.{true, false}
 use mathlib.Core.List.{List, [], _∷_}
 use native.Mathlib.Omega.{arith}
-use lib.ListN.{length, set}
+use lib.ListN.{length, set, drop, drop-of-length-le}
+use lib.Seq.{sets-eq}
 use Rattle.users.specs.Users.{isUser, foundOf}
 use Rattle.users.specs.declared.Found.the-variants.{At}
 use Rattle.users.proofs.Replaced.{Replaced, again}
@@ -17,12 +18,10 @@ use Rattle.condition.proofs.Good.{Sized, good, room-16}
 
 -- four bytes held, one after the other
 held-four : (h : List ℕ) (d1 d2 d3 d4 : ℕ) → length h ≡ 4 → set (set (set (set h 0 d1) 1 d2) 2 d3) 3 d4 ≡ d1 ∷ d2 ∷ d3 ∷ d4 ∷ []
-held-four [] d1 d2 d3 d4 e = absurd (omega arith)
-held-four (a ∷ []) d1 d2 d3 d4 e = absurd (omega arith)
-held-four (a ∷ b ∷ []) d1 d2 d3 d4 e = absurd (omega arith)
-held-four (a ∷ b ∷ x ∷ []) d1 d2 d3 d4 e = absurd (omega arith)
-held-four (a ∷ b ∷ x ∷ y ∷ []) d1 d2 d3 d4 e = refl
-held-four (a ∷ b ∷ x ∷ y ∷ z ∷ h) d1 d2 d3 d4 e = absurd (omega arith)
+held-four h d1 d2 d3 d4 e =
+    let four : length h ≤ 4 = omega arith in
+    let none : drop 4 h ≡ [] = drop-of-length-le h four in
+    sets-eq (d1 ∷ d2 ∷ d3 ∷ d4 ∷ []) h 0 (omega arith) ∙ rw none
 
 -- with nothing half received, and 1Bh no user code, 1Bh begins a command
 escaped : (c : Condition) → c .pending ≡ Nothing → isUser (c .users) 0x1B ≡ false → stepOf c 0x1B ≡ withPending c Escape

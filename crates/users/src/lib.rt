@@ -120,8 +120,7 @@ fn leaving(bytes: &[u8], count: u8, code: u8) -> Found
     }
 }
 
-// Takes the place k out of those up to the youngest: each later one moves to the place before it, and the
-// youngest place is 0.
+// Takes the place k out of those up to the youngest: each later one moves to the place before it, and the youngest place is 0.
 fn remove(bytes: &mut [u8], k: usize, youngest: usize)
     requires { ⌜ (k ≤ youngest) × (youngest * 6 + 6 ≤ length (now bytes)) ⌝ }
     ensures { λ _. ⌜ now (bytes .exit) ≡ removed k youngest (now (bytes .entry)) ⌝ }
