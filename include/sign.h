@@ -31,7 +31,7 @@ extern "C" {
 
 /* The version of the library that this header belongs to. */
 #define SIGN_VERSION_MAJOR 2
-#define SIGN_VERSION_MINOR 1
+#define SIGN_VERSION_MINOR 2
 
 #define SIGN_BLOCK      512   /* bytes of a block */
 #define SIGN_TALLY      16    /* bytes of a tally */
@@ -45,8 +45,8 @@ extern "C" {
    these lines with the compiled code.
      sign_power_up   664
      sign_run        1,272
-     sign_plan       2,248
-     sign_plan_fonts 2,280
+     sign_plan       2,300
+     sign_plan_fonts 2,348
      sign_view       656
      sign_dot        560
      sign_underline  544

@@ -96,6 +96,53 @@ fn main() {
         wanted.fonts[right] = c.font;
         p.try_picture(&c, &wanted);
     }
+    // a full glass to a blank picture, in the selected font and wholly in the other: from every cursor to
+    // every cursor
+    for (from, to) in pairs() {
+        let mut c = Condition::power_up((from + to) as u8 % 2);
+        c.cursor = from;
+        c.euro = from % 3 != 0;
+        c.codes = [0x41; CELLS];
+        for font in 0..2 {
+            p.try_picture(&c, &Wanted::in_two_fonts([0x20; CELLS], [font; CELLS], to));
+        }
+        // few cells to blank: ties, and lengths on either side of one
+        c.codes = [0x20; CELLS];
+        for _ in 0..1 + p.rng.below(5) {
+            let cell = p.rng.below(CELLS);
+            c.codes[cell] = 0x41;
+            if p.rng.once_in(6) {
+                c.fonts[cell] = 1 - c.font;
+            }
+        }
+        let blank = Wanted::in_two_fonts([0x20; CELLS], [c.font; CELLS], to);
+        p.try_picture(&c, &blank);
+        if from % 8 == 0 {
+            p.try_all(&c, &blank, 4);
+        }
+    }
+    // from a full glass to a short notice, from every cursor; in half of them a user character sits on 0Eh,
+    // wanted or not
+    for i in 0..6_000 {
+        let mut c = start(&mut p.rng, &FONTS_CODES);
+        if i % 2 == 1 {
+            user_on_clear(&mut c);
+        }
+        full(&mut c, &mut p.rng);
+        c.cursor = i / 2 % CELLS;
+        let mut codes = notice(&c, &mut p.rng);
+        if c.is_user(CLEAR) && p.rng.once_in(2) {
+            codes[p.rng.pick(&[0, c.cursor, 20])] = CLEAR;
+        }
+        // most cells in the selected font, so that the clear is of use
+        let mut fonts = nearly([c.font; CELLS], &mut p.rng);
+        if p.rng.once_in(4) {
+            fonts = some_fonts(&c, &mut p.rng);
+        }
+        let wanted = Wanted::in_two_fonts(codes, fonts, p.rng.below(CELLS));
+        p.try_picture(&c, &wanted);
+        as_with_one_font(&mut p, &c, &wanted);
+    }
     // pictures of every kind, from conditions of every kind
     for i in 0..20_000 {
         let mut c = start(&mut p.rng, &FONTS_CODES);
@@ -108,7 +155,7 @@ fn main() {
         p.try_picture(&c, &wanted);
         as_with_one_font(&mut p, &c, &wanted);
     }
-    // small differences: every reading-order string with switches is tried
+    // small differences: every string with switches is tried, of either kind of start
     for i in 0..3_000 {
         let mut c = start(&mut p.rng, &FONTS_CODES);
         c.cursor = p.rng.below(CELLS);
@@ -129,9 +176,12 @@ fn main() {
         p.try_all(&c, &wanted, if i % 20 < 2 { 6 } else { 5 });
     }
     let least = AtLeast {
-        plans: 31_000,
-        searched: 2_400,
-        strings: 47_000_000,
+        plans: 41_800,
+        clears: 7_500,
+        ties: 80,
+        barred: 3_200,
+        searched: 2_500,
+        strings: 50_000_000,
     };
     p.end("fonts", 104, least);
 }

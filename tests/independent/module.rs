@@ -1,4 +1,4 @@
-//! The 20x2 display module, written from its papers alone (document 01, the scope, requests W1 and W2 of
+//! The 20x2 display module, written from its papers alone (document 01, the scope, requests W1 to W4 of
 //! document 02, and source 000, the module's specification) and not from the product's code. The product
 //! is compared with it.
 //!
@@ -18,6 +18,8 @@ pub const FONTS_ROOM: usize = 104;
 
 /// The planner's one-byte moves, and ESC: a user character on one of these six stops all planning.
 pub const SINGLE_MOVES: [u8; 5] = [0x08, 0x09, 0x0A, 0x0C, 0x0D];
+/// The byte that clears, with which a plan may start.
+pub const CLEAR: u8 = 0x0E;
 pub const PLANNERS_CODES: [u8; 6] = [0x08, 0x09, 0x0A, 0x0C, 0x0D, 0x1B];
 
 /// The same for the planner of two fonts, which also sends 18h, 19h and 1Ah.
@@ -725,6 +727,15 @@ impl Wanted {
         }
     }
 
+    /// The plan without a clear, from a condition that can be planned from.
+    pub fn plan_without(&self, c: &Condition, moves: &Moves) -> Vec<u8> {
+        if self.switches {
+            Ways::new(c, self, moves, true).smallest(Place::start(c))
+        } else {
+            plain_plan(c, self, moves)
+        }
+    }
+
     pub fn plan(&self, c: &Condition, moves: &Moves) -> Result<Vec<u8>, u32> {
         if self.switches {
             plan_fonts(c, &self.codes, &self.fonts, self.asked as u32, moves)
@@ -758,29 +769,58 @@ fn plan_refusal(c: &Condition, codes: &[u8], asked: u32, planners: &[u8]) -> u32
     }
 }
 
-/// The plan: the wrong cells in reading order, with the shortest way to each and to the asked cursor.
+/// The condition after 0Eh, by the interpreter above; none where a user character sits there.
+pub fn cleared(c: &Condition) -> Option<Condition> {
+    if c.is_user(CLEAR) {
+        return None;
+    }
+    let mut blank = c.clone();
+    blank.take(CLEAR);
+    Some(blank)
+}
+
+/// Request W4: the plan without the clear, or 0Eh and the plan from the cleared condition, if that is shorter.
+fn shorter<F: Fn(&Condition) -> Vec<u8>>(c: &Condition, without: F) -> Vec<u8> {
+    let plain = without(c);
+    if let Some(blank) = cleared(c) {
+        let mut bytes = vec![CLEAR];
+        bytes.extend(without(&blank));
+        if bytes.len() < plain.len() {
+            return bytes;
+        }
+    }
+    plain
+}
+
+/// The plan in the selected font.
 pub fn plan(c: &Condition, codes: &[u8; CELLS], asked: u32, moves: &Moves) -> Result<Vec<u8>, u32> {
     let refusal = plan_refusal(c, codes, asked, &PLANNERS_CODES);
     if refusal != 0 {
         return Err(refusal);
     }
     let wanted = Wanted::in_one_font(c, *codes, asked as usize);
+    Ok(shorter(c, |from| wanted.plan_without(from, moves)))
+}
+
+/// Without a clear: the wrong cells in reading order, with the shortest way to each and to the asked cursor.
+fn plain_plan(c: &Condition, wanted: &Wanted, moves: &Moves) -> Vec<u8> {
     let mut out = Vec::new();
     let mut at = c.cursor;
     for p in 0..CELLS {
-        if c.is_wrong(p, &wanted) {
+        if c.is_wrong(p, wanted) {
             out.extend_from_slice(moves.path(at, p));
             out.push(wanted.codes[p]);
             at = (p + 1) % CELLS;
         }
     }
     out.extend_from_slice(moves.path(at, wanted.asked));
-    Ok(out)
+    out
 }
 
 // ------------------------------------------------------------------------- the planner of two fonts
 
-/// The plan with a font for each cell: of the shortest strings that have a plan's form the smallest.
+/// The plan with a font for each cell: of the shortest strings without a clear that have a plan's form the
+/// smallest, or 0Eh and such a string.
 pub fn plan_fonts(
     c: &Condition,
     codes: &[u8; CELLS],
@@ -796,8 +836,7 @@ pub fn plan_fonts(
         return Err(refusal);
     }
     let wanted = Wanted::in_two_fonts(*codes, *fonts, asked as usize);
-    let ways = Ways::new(c, &wanted, moves, true);
-    Ok(ways.smallest(Place::start(c)))
+    Ok(shorter(c, |from| wanted.plan_without(from, moves)))
 }
 
 /// The step that goes back to the International font and leaves the Euro mark as it is.
@@ -972,46 +1011,57 @@ impl<'a> Ways<'a> {
 
 // ------------------------------------------------------------- two searches that confirm fewest bytes
 
-/// The fewest bytes of any reading-order string that gives the picture and the asked cursor.
+/// The fewest bytes of any string, of either kind of start, that gives the picture and the asked cursor.
 pub fn fewest_bytes(c: &Condition, wanted: &Wanted, moves: &Moves) -> usize {
-    Ways::new(c, wanted, moves, false).from(Place::start(c))
+    let from = |c: &Condition| Ways::new(c, wanted, moves, false).from(Place::start(c));
+    let plain = from(c);
+    cleared(c).map_or(plain, |blank| plain.min(1 + from(&blank)))
 }
 
 /// What the search over the strings themselves found.
 pub struct Found {
-    /// The length of the shortest reading-order strings that give the picture.
+    /// The length of the shortest strings that give the picture.
     pub fewest: usize,
-    /// The smallest of those that write only wrong cells, and switch only before a write that needs it.
+    /// The smallest of those that write only wrong cells, and switch only before a write that needs it; one
+    /// without a clear if there is one.
     pub smallest: Option<Vec<u8>>,
     pub strings: u64,
 }
 
-/// Runs every reading-order string of at most `most` bytes through the interpreter, byte by byte.
+/// Runs every string of at most `most` bytes, of either kind of start, through the interpreter, byte by byte.
 /// With `every_code` each cell is written with every code that can be written, otherwise only with the
 /// wanted one (any other can't be mended).
 pub fn try_all_strings(c: &Condition, wanted: &Wanted, most: usize, every_code: bool) -> Option<Found> {
-    let mut search = Search {
-        start: c,
-        wanted,
-        every_code,
-        string: Vec::new(),
-        plans_form: true,
-        best: None,
-        strings: 0,
-    };
-    // shorter strings first, so that the first length with a hit is the fewest
+    let mut strings = 0;
+    let mut starts = vec![(c.clone(), vec![])];
+    starts.extend(cleared(c).map(|blank| (blank, vec![CLEAR])));
+    // shorter strings first, so that the first length with a hit is the fewest; without a clear first
     for length in 0..=most {
-        search.from(c, 0, length, false);
-        if search.best.is_some() {
-            break;
+        for (start, first) in &starts {
+            if first.len() > length {
+                continue;
+            }
+            let mut search = Search {
+                start,
+                wanted,
+                every_code,
+                string: first.clone(),
+                plans_form: true,
+                best: None,
+                strings: 0,
+            };
+            search.from(start, 0, length - first.len(), false);
+            strings += search.strings;
+            if let Some((fewest, smallest)) = search.best {
+                return Some(Found {
+                    fewest,
+                    smallest,
+                    strings,
+                });
+            }
         }
     }
-    let strings = search.strings;
-    search.best.map(|(fewest, smallest)| Found {
-        fewest,
-        smallest,
-        strings,
-    })
+    None
 }
 
 struct Search<'a> {

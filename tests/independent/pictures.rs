@@ -14,13 +14,24 @@ pub struct Pictures {
     pub moves: Moves,
     longest: usize,
     total: u64,
+    /// Plans that start from a clear, and the bytes that they save.
+    clears: u64,
+    saved: u64,
+    /// Plans without a clear where one with it is as long; and where a user character sits on 0Eh and a plan
+    /// with a clear would else be shorter.
+    ties: u64,
+    barred: u64,
     searched: u64,
     strings: u64,
 }
 
-/// What a test of a planner must have tried: plans, small differences searched, and the strings run for them.
+/// What a test of a planner must have tried: plans, those of each kind of start, small differences searched,
+/// and the strings run for them.
 pub struct AtLeast {
     pub plans: u64,
+    pub clears: u64,
+    pub ties: u64,
+    pub barred: u64,
     pub searched: u64,
     pub strings: u64,
 }
@@ -33,6 +44,10 @@ impl Pictures {
             moves: Moves::new(),
             longest: 0,
             total: 0,
+            clears: 0,
+            saved: 0,
+            ties: 0,
+            barred: 0,
             searched: 0,
             strings: 0,
         }
@@ -80,6 +95,7 @@ impl Pictures {
             .expect(rest, || format!("{}: wrote behind the plan", call()));
         self.longest = self.longest.max(bytes.len());
         self.total += bytes.len() as u64;
+        self.count_start(c, wanted, bytes.len());
 
         // the picture, the asked cursor and nothing else changed, on both interpreters
         let own = run(c, &Tally::ZERO, &bytes).expect("an accepted run").0;
@@ -111,14 +127,35 @@ impl Pictures {
             format!("{}: planned again, answer {}", call(), again)
         });
 
-        // no reading-order string is shorter
+        // no string of either kind of start is shorter
         let fewest = fewest_bytes(c, wanted, &self.moves);
         self.report.expect(fewest == bytes.len(), || {
             format!("{}: {} bytes are enough, the plan has {}", call(), fewest, bytes.len())
         });
     }
 
-    /// Small differences: every reading-order string is run, up to the plan's length.
+    /// Which kind of start the plan has, and why.
+    fn count_start(&mut self, c: &Condition, wanted: &Wanted, length: usize) {
+        let without = wanted.plan_without(c, &self.moves).len();
+        let mut other = c.clone();
+        let place = (0..c.count).find(|&i| c.users[i].code == CLEAR);
+        if let Some(i) = place {
+            // the same with this user character on a code that stands nowhere
+            let stands = |x: &u8| c.codes.contains(x) || wanted.codes.contains(x) || c.is_user(*x);
+            other.users[i].code = (0x80..=0xFF).find(|x| !stands(x)).unwrap_or(CLEAR);
+        }
+        let with = cleared(&other).map_or(usize::MAX, |blank| 1 + wanted.plan_without(&blank, &self.moves).len());
+        self.saved += (without - length) as u64;
+        match place {
+            Some(_) => self.barred += (with < without) as u64,
+            None => {
+                self.clears += (with < without) as u64;
+                self.ties += (with == without) as u64;
+            }
+        }
+    }
+
+    /// Small differences: every string is run, of either kind of start, up to the plan's length.
     pub fn try_all(&mut self, c: &Condition, wanted: &Wanted, most: usize) {
         let expected = wanted.plan(c, &self.moves).expect("a picture that can be planned");
         if expected.len() > most {
@@ -158,11 +195,22 @@ impl Pictures {
         let mean = self.total as f64 / self.report.cases as f64;
         println!("{}: longest {} bytes, mean {:.2}", name, self.longest, mean);
         println!(
+            "{}: {} start from a clear, and save {} bytes; {} ties, {} barred by a user character",
+            name, self.clears, self.saved, self.ties, self.barred
+        );
+        println!(
             "{}: {} small differences searched, {} strings run",
             name, self.searched, self.strings
         );
         self.report.expect(self.longest == longest, || {
             format!("the longest plan should be {} bytes", longest)
+        });
+        let starts = self.clears >= least.clears && self.ties >= least.ties && self.barred >= least.barred;
+        self.report.expect(starts, || {
+            format!(
+                "at least {} clears, {} ties and {} barred were to be met",
+                least.clears, least.ties, least.barred
+            )
         });
         self.report.expect(self.searched >= least.searched, || {
             format!("at least {} small differences were to be searched", least.searched)
@@ -214,6 +262,37 @@ pub fn wanted_code(c: &Condition, rng: &mut Rng) -> u8 {
 /// The codes of the cells, where they can be wanted.
 pub fn kept(c: &Condition) -> [u8; CELLS] {
     c.codes.map(|x| if x < 0x20 && !c.is_user(x) { 0x41 } else { x })
+}
+
+/// A glass that is full, or nearly, in font 0 or 1 of the cells, to start from.
+pub fn full(c: &mut Condition, rng: &mut Rng) {
+    for cell in 0..CELLS {
+        c.codes[cell] = if rng.once_in(9) { 0x20 } else { wanted_code(c, rng) };
+        c.fonts[cell] = if rng.once_in(5) { 1 - c.font } else { c.font };
+    }
+}
+
+/// A short notice: blank but for a word or two, or for single cells.
+pub fn notice(c: &Condition, rng: &mut Rng) -> [u8; CELLS] {
+    let mut wanted = [0x20; CELLS];
+    for _ in 0..rng.below(4) {
+        let from = rng.below(CELLS);
+        let to = (from + 1 + rng.below(12)).min(CELLS);
+        for x in wanted[from..to].iter_mut() {
+            *x = wanted_code(c, rng);
+        }
+    }
+    wanted
+}
+
+/// A user character on 0Eh: one of those that are there moves to that code, or it is a new one.
+pub fn user_on_clear(c: &mut Condition) {
+    if !c.is_user(CLEAR) {
+        if c.count == 0 {
+            c.count = 1;
+        }
+        c.users[0].code = CLEAR;
+    }
 }
 
 /// Codes of every kind to want.

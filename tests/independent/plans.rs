@@ -42,6 +42,38 @@ fn main() {
         wanted.codes[p.rng.below(CELLS)] = 0x20;
         p.try_picture(&c, &wanted);
     }
+    // a full glass, and nearly full ones, to a blank picture: from every cursor to every cursor
+    for (from, to) in pairs() {
+        let mut c = Condition::power_up(1);
+        c.cursor = from;
+        c.codes = [0x41; CELLS];
+        p.try_picture(&c, &Wanted::in_one_font(&c, [0x20; CELLS], to));
+        // few cells to blank: ties, and lengths on either side of one
+        c.codes = [0x20; CELLS];
+        for _ in 0..1 + p.rng.below(5) {
+            c.codes[p.rng.below(CELLS)] = 0x41;
+        }
+        p.try_picture(&c, &Wanted::in_one_font(&c, [0x20; CELLS], to));
+        if from % 8 == 0 {
+            p.try_all(&c, &Wanted::in_one_font(&c, [0x20; CELLS], to), 4);
+        }
+    }
+    // from a full glass to a short notice, from every cursor; in half of them a user character sits on 0Eh,
+    // wanted or not
+    for i in 0..6_000 {
+        let mut c = start(&mut p.rng, &PLANNERS_CODES);
+        if i % 2 == 1 {
+            user_on_clear(&mut c);
+        }
+        full(&mut c, &mut p.rng);
+        c.cursor = i / 2 % CELLS;
+        let mut codes = notice(&c, &mut p.rng);
+        if c.is_user(CLEAR) && p.rng.once_in(2) {
+            codes[p.rng.pick(&[0, c.cursor, 20])] = CLEAR;
+        }
+        let asked = p.rng.below(CELLS);
+        p.try_picture(&c, &Wanted::in_one_font(&c, codes, asked));
+    }
     // pictures of every kind, from conditions of every kind
     for i in 0..20_000 {
         let mut c = start(&mut p.rng, &PLANNERS_CODES);
@@ -52,7 +84,7 @@ fn main() {
         }
         p.try_picture(&c, &Wanted::in_one_font(&c, codes, i / CELLS % CELLS));
     }
-    // small differences: every reading-order string is tried
+    // small differences: every string is tried, of either kind of start
     for i in 0..3_000 {
         let mut c = start(&mut p.rng, &PLANNERS_CODES);
         c.cursor = p.rng.below(CELLS);
@@ -78,9 +110,12 @@ fn main() {
         p.try_all(&c, &wanted, if i % 20 == 0 { 6 } else { 5 });
     }
     let least = AtLeast {
-        plans: 29_400,
-        searched: 2_400,
-        strings: 23_000_000,
+        plans: 38_600,
+        clears: 9_500,
+        ties: 200,
+        barred: 3_400,
+        searched: 2_600,
+        strings: 24_000_000,
     };
     p.end("plans", 44, least);
 }

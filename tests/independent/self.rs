@@ -1,5 +1,5 @@
 //! The independent program alone: the fifteen cases of the bench sheet, the sample, and the rules of
-//! document 01 and of requests W1 to W3 that it can be held to by itself. It uses nothing of the product.
+//! document 01 and of requests W1 to W4 that it can be held to by itself. It uses nothing of the product.
 
 mod inputs;
 mod module;
@@ -416,6 +416,53 @@ fn longest_plan(moves: &Moves, switches: bool) -> usize {
 }
 
 /// The refusals of the planner of two fonts: what is lent, from power-up after these bytes, and the answer.
+/// Plans that may start from a clear, worked out by hand: bytes before, the cells that are not 20h in the
+/// selected font, asked cursor, the plan. Where no cell has another font both planners give it.
+fn from_a_clear(r: &mut Report, moves: &Moves) {
+    type Cells<'a> = &'a [(usize, u8, u8)];
+    let user = inputs::define(0x0E, [0; 5]);
+    let full = |before: &[u8]| [before, &[0x41; CELLS]].concat();
+    let blanks = |first: &[u8], n: usize| [first, &vec![0x20; n]].concat();
+    let examples: [(Vec<u8>, Cells, u32, Vec<u8>); 11] = [
+        // one character, or none, on a full glass; the moves start at the kept cursor
+        (full(&[]), &[(0, 0x42, 0)], 0, vec![0x0E, 0x42, 0x08]),
+        (full(&[]), &[], 0, vec![0x0E]),
+        (full(&[0x1B, 0x48, 0x07]), &[(7, 0x42, 0)], 8, vec![0x0E, 0x42]),
+        (full(&[]), &[(39, 0x42, 0)], 0, vec![0x0E, 0x1B, 0x48, 0x27, 0x42]),
+        // cleared in the font that is selected at the start
+        (full(&[0x19]), &[(0, 0x42, 1)], 1, vec![0x0E, 0x42]),
+        (full(&[0x19, 0x1A]), &[(0, 0x42, 0)], 1, vec![0x0E, 0x18, 0x1A, 0x42]),
+        // a tie, and one byte more and less than one
+        (vec![0x41, 0x0C], &[], 5, vec![0x20, 0x1B, 0x48, 0x05]),
+        (vec![0x41], &[], 1, vec![0x0E]),
+        (vec![0x41, 0x0C], &[], 1, vec![0x20]),
+        // a user character on 0Eh: not wanted, and wanted
+        (full(&user), &[(0, 0x42, 0)], 0, blanks(&[0x42], 39)),
+        (full(&user), &[(0, 0x0E, 0)], 0, blanks(&[0x0E], 39)),
+    ];
+    for (before, cells, asked, expected) in &examples {
+        let (c, _) = after(before);
+        let (mut codes, mut fonts) = ([0x20; CELLS], [c.font; CELLS]);
+        for &(p, code, font) in *cells {
+            codes[p] = code;
+            fonts[p] = font;
+        }
+        r.cases += 1;
+        let got = plan_fonts(&c, &codes, &fonts, *asked, moves);
+        let alike = fonts != [c.font; CELLS] || got == plan(&c, &codes, *asked, moves);
+        r.expect(alike && got.as_ref() == Ok(expected), || {
+            format!("from a clear, {} and not {:02X?}", hex(expected), got)
+        });
+    }
+    // wholly in the other font: no help from the clear
+    let (c, _) = after(&full(&[]));
+    r.cases += 1;
+    r.expect(
+        plan_fonts(&c, &[0x20; CELLS], &[1; CELLS], 0, moves) == Ok(blanks(&[0x19], 40)),
+        || "a blank picture in the other font".to_string(),
+    );
+}
+
 fn two_fonts_refused(r: &mut Report, moves: &Moves) {
     type Example<'a> = (&'a [u8], u8, usize, u32, usize, u32);
     // bytes before, a wanted font, how many fonts, asked cursor, room, answer
@@ -500,8 +547,10 @@ fn main() {
     worked_examples(&mut r);
     move_rule(&mut r, &moves);
     two_fonts(&mut r, &moves);
+    from_a_clear(&mut r, &moves);
     two_fonts_refused(&mut r, &moves);
     conditions(&mut r);
-    // the bench sheet, the sample, examples by hand, ways, plans of two fonts and their refusals, conditions and each byte on each
-    r.end("self", 15 + 2 + 31 + 1_603 + 2_017 + 15 + 3_000 + 768_000);
+    // the bench sheet, the sample, examples by hand, ways, plans of two fonts, plans from a clear, refusals,
+    // conditions and each byte on each
+    r.end("self", 15 + 2 + 31 + 1_603 + 2_017 + 12 + 15 + 3_000 + 768_000);
 }

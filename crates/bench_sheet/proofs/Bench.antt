@@ -18,9 +18,11 @@ use Rattle.moves.specs.Moves.{left, next, down, move, near1, near2, dist}
 use Rattle.moves.specs.Ways.{leaves, firstByte, pathOf, path}
 use Rattle.planner.specs.Plan.{flagged, planOf, plan}
 use Rattle.planner.specs.Fonts.{wrongFor, switch, fontsPlanOf, fontsPlan}
+use Rattle.planner.specs.Clear.{clearWins, eitherBy}
 use Rattle.planner.specs.Answer.{onMove, onSwitch, lacks, someLacks, refusalBy, planRefusal, fontsRefusal}
 use Rattle.bench_sheet.specs.Sheet.{AllHold, dotsUpTo, sheet}
 use Rattle.bench_sheet.specs.FontsSheet.{fontsSheet}
+use Rattle.bench_sheet.specs.ClearSheet.{clearSheet}
 use Rattle.bench_sheet.specs.TallySheet.{AllCount, tallySheet}
 
 pub bench : AllHold sheet
@@ -28,8 +30,8 @@ unfolding powerUp runOf stepAt isChar isUser foundIn limitOf roomOf writeOf push
     controlOf leftOf downOf returnOf clearOf escapeOf positionOf dataOf defineOf removed without withYoungest putOf
     totalOf quickAt writeBusy controlBusy escapeBusy rightScrolls downScrolls lineShifts showsOf showsCode dotsUpTo dotAnswer
     litAnswer lookupOf wellFormed numbersGood scrollGood allUpTo usersGood absent pendingGood escapeGood characterAt dotOf litOf
-    litUpTo wrong left next down move near1 near2 dist leaves firstByte pathOf path flagged planOf plan onMove lacks
-    someLacks refusalBy planRefusal
+    litUpTo wrong left next down move near1 near2 dist leaves firstByte pathOf path flagged planOf plan clearWins eitherBy onMove
+    lacks someLacks refusalBy planRefusal
 bench = (
   (refl, refl),
   (
@@ -66,8 +68,16 @@ bench = (
 pub fonts-bench : AllHold fontsSheet
 unfolding powerUp runOf stepAt isChar isUser foundIn limitOf roomOf controlOf escapeOf positionOf wellFormed numbersGood scrollGood
     allUpTo usersGood absent pendingGood escapeGood left next down move near1 near2 dist lineStart leaves firstByte pathOf path
-    flagged wrongFor switch fontsPlanOf fontsPlan onMove onSwitch lacks someLacks refusalBy fontsRefusal
+    flagged wrongFor switch fontsPlanOf fontsPlan clearWins eitherBy clearOf onMove onSwitch lacks someLacks refusalBy fontsRefusal
 fonts-bench = ((refl, refl), ((refl, refl), ((refl, refl), tt)))
+
+-- and the cases that may start from a clear
+pub clear-bench : AllHold clearSheet
+unfolding powerUp runOf stepAt isChar isUser foundIn limitOf roomOf writeOf rightOf controlOf escapeOf dataOf defineOf removed
+    without withYoungest putOf clearOf wellFormed numbersGood scrollGood allUpTo usersGood absent pendingGood escapeGood wrong left
+    next down move near1 near2 dist lineStart leaves firstByte pathOf path flagged planOf plan wrongFor switch fontsPlanOf fontsPlan
+    clearWins eitherBy onMove onSwitch lacks someLacks refusalBy planRefusal fontsRefusal
+clear-bench = ((refl, refl), ((refl, refl), ((refl, refl), ((refl, refl), ((refl, refl), ((refl, refl), tt))))))
 
 -- and the cases for the tally
 pub tally-bench : AllCount tallySheet

@@ -4,13 +4,14 @@ use mathlib.Core.Path.{_≡_}
 use mathlib.Core.List.{List, [], _∷_, _++_}
 use lib.ListN.{length, set, replicate}
 use Rattle.condition.specs.declared.Condition.{Condition}
-use Rattle.planner.specs.Fonts.{fontsPlan}
+use Rattle.planner.specs.Clear.{eitherFontsPlan}
 use Rattle.planner.specs.Answer.{fontsRefusal}
 use Rattle.bench_sheet.specs.Sheet.{Case, blank}
 
 -- the plan is accepted, with room for 104 bytes, and is these bytes
 abbrev pub PlannedFonts : Condition → List ℕ → List ℕ → ℕ → List ℕ → Type 0
-PlannedFonts c wanted fonts asked bytes = (fontsRefusal c wanted fonts asked 104 ≡ 0) × (fontsPlan c wanted fonts asked ≡ bytes)
+PlannedFonts c wanted fonts asked bytes =
+    (fontsRefusal c wanted fonts asked 104 ≡ 0) × (eitherFontsPlan c wanted fonts asked ≡ bytes)
 
 -- International and Katakana in turn
 abbrev inTurn : List ℕ
@@ -39,6 +40,6 @@ fontsSheet =
     ∷ record {
       bytes = 0x19 ∷ 0x1A ∷ 0x1B ∷ 0x48 ∷ 0x05 ∷ [];
       holds = λ c busy.
-          (fontsRefusal c (replicate 40 0x41) inTurn 39 104 ≡ 0) × (length (fontsPlan c (replicate 40 0x41) inTurn 39) ≡ 104);
+          (fontsRefusal c (replicate 40 0x41) inTurn 39 104 ≡ 0) × (length (eitherFontsPlan c (replicate 40 0x41) inTurn 39) ≡ 104);
     }
     ∷ []

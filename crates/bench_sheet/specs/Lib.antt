@@ -1,3 +1,4 @@
 pub mod Sheet
 pub mod FontsSheet
+pub mod ClearSheet
 pub mod TallySheet

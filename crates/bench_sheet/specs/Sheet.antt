@@ -13,7 +13,7 @@ use Rattle.condition.specs.Bytes.{runOf}
 use Rattle.condition.specs.Busy.{busyOf}
 use Rattle.glass.specs.Shows.{showsOf}
 use Rattle.glass.specs.Answers.{dotAnswer, litAnswer}
-use Rattle.planner.specs.Plan.{plan}
+use Rattle.planner.specs.Clear.{eitherPlan}
 use Rattle.planner.specs.Answer.{planRefusal}
 
 -- a case: bytes that are run, and what then holds of the condition and of the busy time
@@ -54,7 +54,7 @@ userCodes c = codesIn (c .users .count) (c .users .bytes)
 
 -- the plan is accepted, with room for 44 bytes, and is these bytes
 abbrev pub Planned : Condition → List ℕ → ℕ → List ℕ → Type 0
-Planned c wanted asked bytes = (planRefusal c wanted asked 44 ≡ 0) × (plan c wanted asked ≡ bytes)
+Planned c wanted asked bytes = (planRefusal c wanted asked 44 ≡ 0) × (eitherPlan c wanted asked ≡ bytes)
 
 abbrev pub blank : List ℕ
 blank = replicate 40 0x20
@@ -109,7 +109,7 @@ sheet =
       bytes = 0x1B ∷ 0x48 ∷ 0x05 ∷ [];
       holds = λ c busy.
           Planned c (replicate 40 0x41) 39 (0x0C ∷ (replicate 40 0x41 ++ 0x1B ∷ 0x48 ∷ 0x27 ∷ []))
-          × (length (plan c (replicate 40 0x41) 39) ≡ 44);
+          × (length (eitherPlan c (replicate 40 0x41) 39) ≡ 44);
     }
     -- 14. 1B 48 14, then plan a blank picture, cursor 19: 1B 48 13
     ∷ record { bytes = 0x1B ∷ 0x48 ∷ 0x14 ∷ []; holds = λ c busy. Planned c blank 19 (0x1B ∷ 0x48 ∷ 0x13 ∷ []) }

@@ -18,7 +18,7 @@ use Rattle.condition.specs.Condition.{idle, wellFormed}
 use Rattle.condition.specs.Set.{withCursor, withCell, withScrolling, withPending, goTo}
 use Rattle.condition.specs.Bytes.{leftOf, rightOf, downOf, returnOf, writeOf, controlOf, escapeOf, positionOf}
 use Rattle.condition.specs.Bytes.{isChar, stepAt, stepOf, runOf}
-use Rattle.condition.specs.Steps.{isMove, stepByte, lowAfter, inOrder}
+use Rattle.condition.specs.Steps.{isMove, stepByte, lowAfter, owed, nextByte, inOrder}
 use Rattle.condition.proofs.Characters.{no-user}
 use Rattle.condition.proofs.Good.{idle-is, good}
 use Rattle.condition.proofs.Kept.{scroll-off}
@@ -180,29 +180,29 @@ string-law c bs b w one p free free1B l =
 
 -- what is shown of a condition, shown of one that is the same
 carried : (k : Jump) (a : ℕ) (xs : List ℕ) {d e : Condition} → d ≡ e
-    → (inOrder e 40 xs ≡ true → leadsTo k a (runOf e xs .cursor) xs ≡ true)
-    → inOrder d 40 xs ≡ true → leadsTo k a (runOf d xs .cursor) xs ≡ true
+    → (inOrder false false e 40 xs ≡ true → leadsTo k a (runOf e xs .cursor) xs ≡ true)
+    → inOrder false false d 40 xs ≡ true → leadsTo k a (runOf d xs .cursor) xs ≡ true
 carried k a xs n f o =
     subst (λ (e : Condition). leadsTo k a (runOf e xs .cursor) xs ≡ true) (sym n)
-    (f (subst (λ (e : Condition). inOrder e 40 xs ≡ true) n o))
+    (f (subst (λ (e : Condition). inOrder false false e 40 xs ≡ true) n o))
 
 -- The other way round: a string of the planner's steps that writes nothing is a string of moves. No cell is at 40, so where no cell
 -- below 40 may be written a string in order has no write.
-leads-back : (c : Condition) → Ready c → (bs : List ℕ) (k : Jump) (a : ℕ) → a < 40 → inOrder (partly c k a) 40 bs ≡ true
+leads-back : (c : Condition) → Ready c → (bs : List ℕ) (k : Jump) (a : ℕ) → a < 40 → inOrder false false (partly c k a) 40 bs ≡ true
     → leadsTo k a (runOf (partly c k a) bs .cursor) bs ≡ true
-unfolding runOf leadsTo inOrder stepByte lowAfter escapeOf stepAt isChar
+unfolding runOf leadsTo owed nextByte inOrder stepByte lowAfter escapeOf stepAt isChar
 leads-back c r [] none a h o = eq-eqb a a refl
 leads-back c r [] escape a h o = clash o refl
 leads-back c r [] place a h o = clash o refl
 leads-back c r (x ∷ xs) none a h o =
     let d = partly c none a in
-    let may = both (stepByte Nothing d 40 x) (inOrder (stepOf d x) (lowAfter d 40 x) xs) o .0 in
-    let rest = both (stepByte Nothing d 40 x) (inOrder (stepOf d x) (lowAfter d 40 x) xs) o .1 in
+    let may = sym (or-false (stepByte Nothing d 40 x)) ∙ both (nextByte false false d 40 x) _ o .0 in
+    let rest = both (nextByte false false d 40 x) (inOrder false false (stepOf d x) (lowAfter d 40 x) xs) o .1 in
     by-cases (isChar c x)
     (λ e. let l : 40 ≤ a = leb-true 40 a (rw e at may) in absurd (omega arith))
     (λ e. let m : (isMove x || eqb x 0x1B) ≡ true = rw e at may in
     let low : lowAfter d 40 x ≡ 40 = rw e in
-    let on = subst (λ (n : ℕ). inOrder (stepOf d x) n xs ≡ true) low rest in
+    let on = subst (λ (n : ℕ). inOrder false false (stepOf d x) n xs ≡ true) low rest in
     let u = no-user c x e in
     by-cases (eqb x 0x1B)
     (λ z. let q : x ≡ 0x1B = eqb-true x 0x1B z in
@@ -212,23 +212,23 @@ leads-back c r (x ∷ xs) none a h o =
     let n = moves-to d (partly-ready c a r h) x i u in
     rw (z, i) (carried none (move x a) xs n (leads-back c r xs none (move x a) (move-below x a h)) on)))
 leads-back c r (x ∷ xs) escape a h o =
-    let e = both (eqb x 0x48) _ o .0 in
+    let e = sym (or-false (eqb x 0x48)) ∙ both (eqb x 0x48 || false) _ o .0 in
     let n = ap (stepOf (partly c escape a)) (eqb-true x 0x48 e) in
-    rw e (carried place a xs n (leads-back c r xs place a h) (both (eqb x 0x48) _ o .1))
+    rw e (carried place a xs n (leads-back c r xs place a h) (both (eqb x 0x48 || false) _ o .1))
 leads-back c r (x ∷ xs) place a h o =
-    let e = both (leb x 0x27) _ o .0 in
+    let e = sym (or-false (leb x 0x27)) ∙ both (leb x 0x27 || false) _ o .0 in
     let z : x < 40 = (let k = leb-true x 0x27 e in omega arith) in
     let n = placed (withCursor c a) x (r .still) z in
-    rw e (carried none x xs n (leads-back c r xs none x z) (both (leb x 0x27) _ o .1))
+    rw e (carried none x xs n (leads-back c r xs none x z) (both (leb x 0x27 || false) _ o .1))
 
-pub writeless : (c : Condition) (bs : List ℕ) → Ready c → inOrder c 40 bs ≡ true
+pub writeless : (c : Condition) (bs : List ℕ) → Ready c → inOrder false false c 40 bs ≡ true
     → leadsTo none (c .cursor) (runOf c bs .cursor) bs ≡ true
 writeless c bs r o =
     carried none (c .cursor) bs (λ i. withPending c (r .whole i)) (leads-back c r bs none (c .cursor) (r .inside)) o
 
 -- so, of all strings of the planner's steps that write nothing and bring the cursor to b, none is shorter than its way, and none of
 -- that length is smaller
-pub way-law : (c : Condition) (bs : List ℕ) (b : ℕ) → Ready c → b < 40 → inOrder c 40 bs ≡ true → runOf c bs .cursor ≡ b
+pub way-law : (c : Condition) (bs : List ℕ) (b : ℕ) → Ready c → b < 40 → inOrder false false c 40 bs ≡ true → runOf c bs .cursor ≡ b
     → (length (path (c .cursor) b) ≤ length bs) × (length bs ≡ length (path (c .cursor) b) → atMost (path (c .cursor) b) bs ≡ true)
 way-law c bs b r h o e =
     let l = subst (λ (p : ℕ). leadsTo none (c .cursor) p bs ≡ true) e (writeless c bs r o) in

@@ -1,37 +1,28 @@
--- Demand 3 over what a byte does: the plan of a condition that can be planned from delivers the picture, in one font or in two.
+-- Demand 3 over what a byte does: the plan of a condition that can be planned from delivers the picture, in one font or in two,
+-- without a clear and with it.
 use mathlib.Core.Path.{_≡_, refl, sym, ap, _∙_}
 use mathlib.Core.Bool.{Bool, true, false}
 use mathlib.Core.List.{List, _∷_, _++_}
 use Prim.Native.Nat.{ℕ, zero, suc, _+_, _≤_, _<_}
 use native.Mathlib.Omega.{arith}
-use lib.Dec.{eqb}
 use lib.ListN.{length, getD, replicate, length-replicate, getD-replicate}
 use Rattle.laws.proofs.Tests.{by-cases}
 use Rattle.condition.specs.declared.Condition.{Condition}
-use Rattle.condition.specs.Set.{withPending}
-use Rattle.condition.specs.Bytes.{isChar, runOf}
-use Rattle.condition.specs.Steps.{wrong}
-use Rattle.moves.specs.Moves.{any, moves, next}
+use Rattle.condition.specs.Bytes.{isChar, clearOf}
+use Rattle.condition.specs.Steps.{readingOrder, eitherStart, wrong}
+use Rattle.condition.proofs.Ranges.{up-to-at}
+use Rattle.moves.specs.Moves.{next}
 use Rattle.moves.specs.Ways.{path}
-use Rattle.moves.proofs.Interpreter.{Ready}
-use Rattle.planner.specs.Plan.{flagged, planOf, plan, Pictured, Delivers}
+use Rattle.planner.specs.Plan.{flagged, planOf, plan, Delivers}
 use Rattle.planner.specs.Fonts.{wrongFor, fontsPlanOf, fontsPlan, picturedIn, FontsDelivers}
-use Rattle.planner.proofs.Canvas.{canvas, wrongIn}
+use Rattle.planner.specs.Clear.{clearWins, eitherBy, eitherPlan, eitherFontsPlan}
+use Rattle.planner.specs.Given.{Given}
+use Rattle.planner.proofs.Canvas.{wrongIn}
 use Rattle.planner.proofs.Costs.{flagged-yes, flagged-no, flagged-same, switch-none}
 use Rattle.planner.proofs.Costs.{cost, cost-plain, cost-most, length-plan}
-use Rattle.planner.proofs.Picture.{wrongsIn, Switches, deliver, stays, switches-both, Reaches, plan-reaches, plan-fewest}
-use Rattle.planner.proofs.Seam.{embed, canvasOf, orderedFrom, runFrom, run-is, order-is, font-order-is, ends}
-
--- a condition that can be planned from, and codes that it can show
-pub record Plannable (c : Condition) (wanted : List ℕ) (asked : ℕ) : Type 0 where
-  pub ready : Ready c
-  pub codes-40 : length (c .codes) ≡ 40
-  pub fonts-40 : length (c .fonts) ≡ 40
-  pub wanted-40 : length wanted ≡ 40
-  pub asked-40 : asked < 40
-  pub escape-free : isChar c 0x1B ≡ false
-  pub moves-free : (b : ℕ) → any (eqb b) moves ≡ true → isChar c b ≡ false
-  pub shown : (i : ℕ) → i < 40 → isChar c (getD wanted i 0) ≡ true
+use Rattle.planner.proofs.Picture.{wrongsIn, stays, switches-both}
+use Rattle.planner.proofs.Serving.{Plannable, made, Serves, serves}
+use Rattle.planner.proofs.Clear.{either-least, cleared-plannable, either-serves}
 
 -- and fonts, with steps to switch between them
 pub record Switchable (c : Condition) (fonts : List ℕ) : Type 0 where
@@ -42,71 +33,11 @@ pub record Switchable (c : Condition) (fonts : List ℕ) : Type 0 where
   pub free19 : isChar c 0x19 ≡ false
   pub free1A : isChar c 0x1A ≡ false
 
--- Any set of steps ----------------------------------------------------------------------------------------------------------------
-
-module _ (switching : Bool) (c : Condition) (r : Ready c) (ws gs : List ℕ) (q : ℕ) (bs : List ℕ) where
-  -- a string that reaches the picture gives it and leaves everything else
-  gives-it : Reaches switching (c .euro) (isChar c) ws gs q (canvasOf c) bs
-      → runOf c bs ≡ picturedIn c ws gs q (runFrom switching c bs .font)
-  gives-it g =
-      let f = runFrom switching c bs .font in
-      let e = ends switching (c .euro) (isChar c) bs (canvasOf c) 0 (g .steps) in
-      run-is switching c r bs (g .steps)
-      ∙ (λ i. embed c (canvas (e i) (g .cursor i) f (g .codes i) (g .fonts i)))
-      ∙ (λ i. withPending (picturedIn c ws gs q f) (sym (r .whole) i))
-
-  -- a string after which the picture is there reaches it
-  reaches-it : orderedFrom switching c bs ≡ true → Pictured (runOf c bs) ws gs q
-      → Reaches switching (c .euro) (isChar c) ws gs q (canvasOf c) bs
-  reaches-it s g =
-      let e = sym (run-is switching c r bs s) in
-      record {
-        steps = s;
-        codes = ap (λ (d : Condition). d .codes) e ∙ g .codes;
-        fonts = ap (λ (d : Condition). d .fonts) e ∙ g .fonts;
-        cursor = ap (λ (d : Condition). d .cursor) e ∙ g .cursor;
-      }
-
--- the plan for the wanted font of each cell, and what it costs
-abbrev pub made : (ℕ → ℕ) → Condition → List ℕ → ℕ → List ℕ
-made font c wanted asked =
-    fontsPlanOf (c .euro) wanted font asked (c .cursor) (c .font) (wrongsIn font wanted (c .codes) (c .fonts))
-
 made-length : (font : ℕ → ℕ) (c : Condition) (wanted : List ℕ) (asked : ℕ)
     → length (made font c wanted asked)
     ≡ cost (c .euro) font asked (c .cursor, c .font) (wrongsIn font wanted (c .codes) (c .fonts))
 made-length font c wanted asked =
     length-plan (c .euro) font wanted asked (c .cursor) (c .font) (wrongsIn font wanted (c .codes) (c .fonts))
-
--- what bytes do for a picture, with steps that may switch and with `Ok` of the fonts that may be selected
-record Serves (switching : Bool) (Ok : ℕ → Type 0) (c : Condition) (wanted gs : List ℕ) (asked : ℕ) (bytes : List ℕ) : Type 0 where
-  selected : ℕ
-  ok : Ok selected
-  gives : runOf c bytes ≡ picturedIn c wanted gs asked selected
-  steps : orderedFrom switching c bytes ≡ true
-  fewest : (bs : List ℕ) → orderedFrom switching c bs ≡ true → Pictured (runOf c bs) wanted gs asked → length bytes ≤ length bs
-
--- `font` gives the wanted fonts gs by their place
-module _ (switching : Bool) (Ok : ℕ → Type 0) (font : ℕ → ℕ) (c : Condition) (wanted gs : List ℕ) (asked : ℕ) where
-  serves : Plannable c wanted asked → length gs ≡ 40 → ((i : ℕ) → i < 40 → getD gs i 0 ≡ font i) → Ok (c .font)
-      → ((i : ℕ) → i < 40 → Ok (font i)) → Switches switching (c .euro) (isChar c) Ok font wanted asked
-      → Serves switching Ok c wanted gs asked (made font c wanted asked)
-  serves r long same ok fonts-ok switches =
-      let d = deliver switching (c .euro) (isChar c) Ok font wanted asked (r .escape-free) (r .moves-free) switches fonts-ok
-      (r .shown) (r .asked-40) 40 0 (c .cursor) 0 (c .font) (c .codes) (c .fonts) ok (r .codes-40) (r .fonts-40) refl (omega arith)
-      (λ j l. absurd (omega arith)) in
-      let g = plan-reaches switching (c .euro) (isChar c) font wanted gs asked (c .cursor) (c .font) (c .codes) (c .fonts)
-      (r .wanted-40) long (r .codes-40) (r .fonts-40) same (r .ready .inside) Ok d in
-      record {
-        selected = runFrom switching c (made font c wanted asked) .font;
-        ok = g .1;
-        gives = gives-it switching c (r .ready) wanted gs asked (made font c wanted asked) (g .0);
-        steps = g .0 .steps;
-        fewest = λ bs s p.
-            plan-fewest switching (c .euro) (isChar c) font wanted gs asked (c .cursor) (c .font) (c .codes) (c .fonts)
-            (r .wanted-40) long (r .codes-40) (r .fonts-40) same (r .ready .inside) bs
-            (reaches-it switching c (r .ready) wanted gs asked bs s p);
-      }
 
 -- One font ------------------------------------------------------------------------------------------------------------------------
 
@@ -133,18 +64,45 @@ plan-most c wanted asked =
     rw (plan-made c wanted asked, made-length (λ i. c .font) c wanted asked)
     (cost-plain (c .euro) (c .font) asked (wrongIn (λ i. c .font) wanted (c .codes) (c .fonts)) (c .cursor))
 
-pub delivers : (c : Condition) (wanted : List ℕ) (asked : ℕ) → Plannable c wanted asked
-    → Delivers c wanted asked (plan c wanted asked)
-delivers c wanted asked r =
-    let w = serves false (λ h. h ≡ c .font) (λ i. c .font) c wanted (replicate 40 (c .font)) asked r (length-replicate 40 (c .font))
+-- bytes that serve in the selected font
+abbrev Plain : (Condition → List ℕ → Bool) → Condition → List ℕ → ℕ → List ℕ → Type 0
+Plain Allowed c wanted asked bytes = Serves Allowed (λ h. h ≡ c .font) c wanted (replicate 40 (c .font)) asked bytes
+
+plan-serves : (c : Condition) (wanted : List ℕ) (asked : ℕ) → Plannable c wanted asked
+    → Plain (readingOrder false) c wanted asked (plan c wanted asked)
+plan-serves c wanted asked r =
+    rw (plan-made c wanted asked)
+    (serves false (λ h. h ≡ c .font) (λ i. c .font) c wanted (replicate 40 (c .font)) asked r (length-replicate 40 (c .font))
     (λ i l. getD-replicate 40 i (c .font) 0 l) refl (λ i l. refl)
-    (stays false (c .euro) (isChar c) (c .font) (λ i. c .font) wanted asked) in
+    (stays false (c .euro) (isChar c) (c .font) (λ i. c .font) wanted asked))
+
+delivers-by : (Allowed : Condition → List ℕ → Bool) (c : Condition) (wanted : List ℕ) (asked : ℕ) (bytes : List ℕ)
+    → Plain Allowed c wanted asked bytes → length bytes ≤ 44 → Delivers Allowed c wanted asked bytes
+delivers-by Allowed c wanted asked bytes w m =
     record {
-      gives = rw (plan-made c wanted asked) (w .gives ∙ ap (picturedIn c wanted (replicate 40 (c .font)) asked) (w .ok));
-      ordered = rw (plan-made c wanted asked) (order-is c (r .ready) _ ∙ w .steps);
-      fewest = λ bs o p. rw (plan-made c wanted asked) (w .fewest bs (sym (order-is c (r .ready) bs) ∙ o) p);
-      most = plan-most c wanted asked;
+      gives = w .gives ∙ ap (picturedIn c wanted (replicate 40 (c .font)) asked) (w .ok);
+      ordered = w .ordered;
+      fewest = w .fewest;
+      most = m;
     }
+
+-- the plan without a clear, of all strings without one
+pub delivers : (c : Condition) (wanted : List ℕ) (asked : ℕ) → Plannable c wanted asked
+    → Delivers (readingOrder false) c wanted asked (plan c wanted asked)
+delivers c wanted asked r = delivers-by _ c wanted asked _ (plan-serves c wanted asked r) (plan-most c wanted asked)
+
+-- what the planner gives, of all strings with a clear and without one
+pub either-most : (c : Condition) (wanted : List ℕ) (asked : ℕ) → length (eitherPlan c wanted asked) ≤ 44
+either-most c wanted asked = omega (arith, either-least (λ d. plan d wanted asked) c, plan-most c wanted asked)
+
+pub either-delivers : (c : Condition) (wanted : List ℕ) (asked : ℕ) → Plannable c wanted asked
+    → Delivers (eitherStart false) c wanted asked (eitherPlan c wanted asked)
+unfolding clearOf
+either-delivers c wanted asked r =
+    delivers-by _ c wanted asked _
+    (either-serves false (λ h. h ≡ c .font) c (r .ready) wanted (replicate 40 (c .font)) asked (λ d. plan d wanted asked)
+    (plan-serves c wanted asked r) (plan-serves (clearOf c) wanted asked (cleared-plannable c wanted asked r)))
+    (either-most c wanted asked)
 
 -- Two fonts -----------------------------------------------------------------------------------------------------------------------
 
@@ -159,18 +117,54 @@ module _ (c : Condition) (wanted fonts : List ℕ) (asked : ℕ) where
       rw (fonts-made, made-length (λ i. getD fonts i 0) c wanted asked)
       (cost-most (c .euro) (λ i. getD fonts i 0) h asked wrongs (c .cursor) (c .font) l)
 
-  pub fonts-deliver : Plannable c wanted asked → Switchable c fonts
-      → FontsDelivers c wanted fonts asked (fontsPlan c wanted fonts asked)
-  fonts-deliver r t =
+  pub given-most : Given c wanted fonts asked → length (fontsPlan c wanted fonts asked) ≤ 104
+  given-most g = fonts-most (up-to-at 1 fonts (g .fonts-1)) (g .font-1)
+
+  fonts-serve : Plannable c wanted asked → Switchable c fonts
+      → Serves (readingOrder true) (λ h. h ≤ 1) c wanted fonts asked (fontsPlan c wanted fonts asked)
+  fonts-serve r t =
       let both = switches-both (c .euro) (isChar c) (λ i. getD fonts i 0) wanted asked (t .free18) (t .free19) (t .free1A) in
-      let w = serves true (λ h. h ≤ 1) (λ i. getD fonts i 0) c wanted fonts asked r (t .wanted-fonts-40) (λ i l. refl)
-      (t .selected-1) (λ i l. t .wanted-fonts-1 i) both in
+      rw fonts-made
+      (serves true (λ h. h ≤ 1) (λ i. getD fonts i 0) c wanted fonts asked r (t .wanted-fonts-40) (λ i l. refl) (t .selected-1)
+      (λ i l. t .wanted-fonts-1 i) both)
+
+  fonts-by : (Allowed : Condition → List ℕ → Bool) (bytes : List ℕ) → Serves Allowed (λ h. h ≤ 1) c wanted fonts asked bytes
+      → length bytes ≤ 104 → FontsDelivers Allowed c wanted fonts asked bytes
+  fonts-by Allowed bytes w m =
       record {
-        gives = rw fonts-made (w .gives ∙ ap (picturedIn c wanted fonts asked) (sym (ap (λ (d : Condition). d .font) (w .gives))));
-        ordered = rw fonts-made (font-order-is c (r .ready) _ ∙ w .steps);
-        fewest = λ bs o p. rw fonts-made (w .fewest bs (sym (font-order-is c (r .ready) bs) ∙ o) p);
-        most = fonts-most (t .wanted-fonts-1) (t .selected-1);
+        gives = w .gives ∙ ap (picturedIn c wanted fonts asked) (sym (ap (λ (d : Condition). d .font) (w .gives)));
+        ordered = w .ordered;
+        fewest = w .fewest;
+        most = m;
       }
+
+  pub fonts-deliver : Plannable c wanted asked → Switchable c fonts
+      → FontsDelivers (readingOrder true) c wanted fonts asked (fontsPlan c wanted fonts asked)
+  fonts-deliver r t = fonts-by _ _ (fonts-serve r t) (fonts-most (t .wanted-fonts-1) (t .selected-1))
+
+  pub either-fonts-most : ((i : ℕ) → getD fonts i 0 ≤ 1) → c .font ≤ 1 → length (eitherFontsPlan c wanted fonts asked) ≤ 104
+  either-fonts-most h l = omega (arith, either-least (λ d. fontsPlan d wanted fonts asked) c, fonts-most h l)
+
+cleared-switchable : (c : Condition) (fonts : List ℕ) → Switchable c fonts → Switchable (clearOf c) fonts
+unfolding clearOf isChar
+cleared-switchable c fonts t =
+    record {
+      wanted-fonts-40 = t .wanted-fonts-40;
+      wanted-fonts-1 = t .wanted-fonts-1;
+      selected-1 = t .selected-1;
+      free18 = t .free18;
+      free19 = t .free19;
+      free1A = t .free1A;
+    }
+
+pub either-fonts-deliver : (c : Condition) (wanted fonts : List ℕ) (asked : ℕ) → Plannable c wanted asked → Switchable c fonts
+    → FontsDelivers (eitherStart true) c wanted fonts asked (eitherFontsPlan c wanted fonts asked)
+either-fonts-deliver c wanted fonts asked r t =
+    fonts-by c wanted fonts asked _ _
+    (either-serves true (λ h. h ≤ 1) c (r .ready) wanted fonts asked (λ d. fontsPlan d wanted fonts asked)
+    (fonts-serve c wanted fonts asked r t)
+    (fonts-serve (clearOf c) wanted fonts asked (cleared-plannable c wanted asked r) (cleared-switchable c fonts t)))
+    (either-fonts-most c wanted fonts asked (t .wanted-fonts-1) (t .selected-1))
 
 -- The one-font planner stays (document 02, W1): for wanted fonts all equal to the selected one both planners give the same bytes
 pub one-font : (c : Condition) (wanted : List ℕ) (asked : ℕ)
@@ -181,3 +175,15 @@ one-font c wanted asked =
     ap (λ (xs : List ℕ). fontsPlanOf (c .euro) wanted (λ i. getD (replicate 40 (c .font)) i 0) asked (c .cursor) (c .font) xs)
     (flagged-same _ (wrong c wanted) 40 0 (λ j l h. rw (all j h)))
     ∙ sym (plain (c .euro) wanted (λ i. getD (replicate 40 (c .font)) i 0) (wrong c wanted) asked (c .font) 40 0 (c .cursor) all)
+
+-- with the clear too
+pub either-one-font : (c : Condition) (wanted : List ℕ) (asked : ℕ)
+    → eitherFontsPlan c wanted (replicate 40 (c .font)) asked ≡ eitherPlan c wanted asked
+unfolding eitherBy clearWins clearOf
+either-one-font c wanted asked =
+    let plain = one-font c wanted asked in
+    let cleared = one-font (clearOf c) wanted asked in
+    let wins : clearWins (λ d. fontsPlan d wanted (replicate 40 (c .font)) asked) c ≡ clearWins (λ d. plan d wanted asked) c =
+    rw (plain, cleared) in
+    rw wins
+    (by-cases (clearWins (λ d. plan d wanted asked) c) (λ e. rw e (ap (λ (l : List ℕ). 0x0E ∷ l) cleared)) (λ e. rw e plain))

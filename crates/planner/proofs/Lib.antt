@@ -2,7 +2,11 @@ pub mod Canvas
 pub mod Costs
 pub mod Picture
 pub mod Seam
+pub mod Counting
+pub mod Putting
+pub mod Serving
+pub mod Clear
 pub mod Demand
+pub mod Started
 pub mod Refusals
 pub mod Wanted
-pub mod Putting

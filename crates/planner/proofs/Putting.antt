@@ -1,10 +1,9 @@
--- What the loop that puts a plan keeps.
+-- What the loop that puts a plan keeps besides.
 use mathlib.Core.Path.{_≡_, refl, sym, ap, _∙_}
 use mathlib.Core.Bool.{Bool, true, false}
 use mathlib.Core.List.{List, [], _∷_, _++_, append-assoc, append-nil}
-use Prim.Native.Nat.{ℕ, suc, _+_, _-_, _≤_, _<_}
+use Prim.Native.Nat.{ℕ, _+_, _-_, _≤_, _<_}
 use native.Mathlib.Nat.{zero-add}
-use native.Mathlib.Numerals.{add-one}
 use native.Mathlib.Omega.{arith}
 use lib.ListN.{length, getD, set, take, drop, length-append, length-drop, drop-of-length-le}
 use lib.Seq.{sets, sets-eq, length-sets, take-all, take-append-seam, drop-drop}
@@ -12,11 +11,11 @@ use Rattle.laws.proofs.Lists.{tail-part, sets-append}
 use Rattle.row.specs.Row.{laid}
 use Rattle.moves.specs.Moves.{next}
 use Rattle.moves.specs.Ways.{path}
-use Rattle.planner.specs.Plan.{flagged, atStart}
-use Rattle.planner.specs.Fonts.{switch, fontsPlanOf}
-use Rattle.moves.proofs.Moving.{next-below, path-most}
-use Rattle.planner.proofs.Canvas.{wrongIn}
-use Rattle.planner.proofs.Costs.{flagged-yes, flagged-no}
+use Rattle.planner.specs.Plan.{atStart}
+use Rattle.planner.specs.Fonts.{switch}
+use Rattle.moves.proofs.Moving.{path-most}
+use Rattle.planner.proofs.Counting.{bad, planIn, rest, written, rest-skip, rest-write, rest-end, written-length}
+use Rattle.planner.proofs.Counting.{Counting, count-start, count-skip, count-room, count-write, count-end}
 
 -- bytes copied to the place k of a buffer that has room for them
 pub put-part : (out part : List ℕ) (k : ℕ) (bs : List ℕ) → k + length bs ≤ length out
@@ -56,125 +55,78 @@ put-front out xs h = sets-eq xs out 0 (omega arith) ∙ ap (λ (n : ℕ). xs ++ 
 
 -- the plan ----------------------------------------------------------------------------------------------------------------------
 
-left-suc : (i : ℕ) → i < 40 → 40 - i ≡ suc (40 - (i + 1))
-left-suc i h = omega arith
-
-rest-no : (w : ℕ → Bool) (i : ℕ) → i < 40 → w i ≡ false → flagged w (40 - i) i ≡ flagged w (40 - (i + 1)) (i + 1)
-rest-no w i h e =
-    ap (λ (n : ℕ). flagged w n i) (left-suc i h) ∙ flagged-no w (40 - (i + 1)) i e
-    ∙ ap (λ (n : ℕ). flagged w (40 - (i + 1)) n) (sym (add-one i))
-
-rest-yes : (w : ℕ → Bool) (i : ℕ) → i < 40 → w i ≡ true → flagged w (40 - i) i ≡ i ∷ flagged w (40 - (i + 1)) (i + 1)
-rest-yes w i h e =
-    ap (λ (n : ℕ). flagged w n i) (left-suc i h) ∙ flagged-yes w (40 - (i + 1)) i e
-    ∙ ap (λ (n : ℕ). i ∷ flagged w (40 - (i + 1)) n) (sym (add-one i))
-
--- from the condition's parts: the Euro mark, the cells, the cursor and the selected font
 module _ (e : Bool) (ws gs cs fs : List ℕ) (q p₀ f₀ : ℕ) where
-  abbrev bad : ℕ → Bool
-  bad = wrongIn (λ j. getD gs j 0) ws cs fs
+  abbrev whole : List ℕ
+  whole = planIn e ws gs cs fs q p₀ f₀
 
-  unfoldable pub planIn : List ℕ
-  planIn = fontsPlanOf e ws (λ j. getD gs j 0) q p₀ f₀ (flagged bad 40 0)
+  abbrev left : ℕ → ℕ → ℕ → List ℕ
+  left p f i = rest e ws gs cs fs q p₀ f₀ p f i
 
-  -- what is left of the plan at the cell i, from the place p and with f selected
-  unfoldable pub rest : ℕ → ℕ → ℕ → List ℕ
-  rest p f i = fontsPlanOf e ws (λ j. getD gs j 0) q p f (flagged bad (40 - i) i)
+  abbrev here : ℕ → ℕ → List ℕ
+  here f i = written e ws gs cs fs q p₀ f₀ f i
 
-  -- the bytes at a wrong cell behind its way
-  abbrev pub written : ℕ → ℕ → List ℕ
-  written f i = switch e f (getD gs i 0) ++ getD ws i 0 ∷ []
+  abbrev isBad : ℕ → Bool
+  isBad = bad e ws gs cs fs q p₀ f₀
 
-  -- and what is left behind it
-  abbrev behind : ℕ → List ℕ
-  behind i = rest (next i) (getD gs i 0) (i + 1)
-
-  pub record Planning (out₀ out : List ℕ) (p f k i : ℕ) : Type 0 where
-    pub upto : i ≤ 40
-    pub inside : p < 40
-    pub count : k + length (rest p f i) ≡ length planIn
-    pub same : sets out₀ 0 planIn ≡ sets out k (rest p f i)
+  pub record Planning (k₀ : ℕ) (out₀ out : List ℕ) (p f k i : ℕ) : Type 0 where
+    pub counting : Counting e ws gs cs fs q p₀ f₀ k₀ p f k i
+    pub same : sets out₀ k₀ whole ≡ sets out k (left p f i)
     pub long : length out ≡ length out₀
-    pub room : length planIn ≤ length out₀
+    pub room : k₀ + length whole ≤ length out₀
 
-  pub plan-start : (out : List ℕ) → p₀ < 40 → length planIn ≤ length out → Planning out out p₀ f₀ 0 0
+  pub plan-start : (k : ℕ) (out : List ℕ) → p₀ < 40 → k + length whole ≤ length out → Planning k out out p₀ f₀ k 0
   unfolding rest planIn
-  plan-start out h r = record { upto = omega arith; inside = h; count = omega arith; same = refl; long = refl; room = r }
+  plan-start k out h r =
+      record { counting = count-start e ws gs cs fs q p₀ f₀ k h; same = refl; long = refl; room = r }
 
-  module _ {out₀ out : List ℕ} {p f k i : ℕ} (v : Planning out₀ out p f k i) where
-    pub plan-skip : (out′ : List ℕ) (p′ f′ k′ : ℕ) → i < 40 → bad i ≡ false → out′ ≡ out → p′ ≡ p → f′ ≡ f → k′ ≡ k
-        → Planning out₀ out′ p′ f′ k′ (i + 1)
-    unfolding rest
+  module _ {k₀ : ℕ} {out₀ out : List ℕ} {p f k i : ℕ} (v : Planning k₀ out₀ out p f k i) where
+    pub plan-skip : (out′ : List ℕ) (p′ f′ k′ : ℕ) → i < 40 → isBad i ≡ false → out′ ≡ out → p′ ≡ p → f′ ≡ f → k′ ≡ k
+        → Planning k₀ out₀ out′ p′ f′ k′ (i + 1)
     plan-skip out′ p′ f′ k′ h b eo ep ef ek =
-        let r = ap (λ (l : List ℕ). fontsPlanOf e ws (λ j. getD gs j 0) q p f l) (rest-no bad i h b) in
-        rw (eo, ep, ef, ek)
-        (record {
-          upto = omega arith;
-          inside = v .inside;
-          count = rw (← r) (v .count);
-          same = rw (← r) (v .same);
-          long = v .long;
+        record {
+          counting = count-skip e ws gs cs fs q p₀ f₀ (v .counting) p′ f′ k′ h b ep ef ek;
+          same = rw (eo, ep, ef, ek, ← rest-skip e ws gs cs fs q p₀ f₀ p f i h b) (v .same);
+          long = rw eo (v .long);
           room = v .room;
-        })
-
-    -- the bytes at a wrong cell, and the rest
-    rest-write : i < 40 → bad i ≡ true → rest p f i ≡ path p i ++ (written f i ++ behind i)
-    unfolding rest fontsPlanOf
-    rest-write h b =
-        ap (λ (l : List ℕ). fontsPlanOf e ws (λ j. getD gs j 0) q p f l) (rest-yes bad i h b)
-        ∙ ap (λ (l : List ℕ). path p i ++ l) (sym (append-assoc (switch e f (getD gs i 0)) (getD ws i 0 ∷ []) _))
-
-    rest-length : i < 40 → bad i ≡ true → length (rest p f i) ≡ length (path p i) + (length (written f i) + length (behind i))
-    rest-length h b =
-        ap length (rest-write h b) ∙ length-append (path p i) _
-        ∙ ap (λ (n : ℕ). length (path p i) + n) (length-append (written f i) (behind i))
+        }
 
     -- room for the way to a wrong cell, and for what is written there
-    pub way-room : i < 40 → bad i ≡ true → k + length (path p i) ≤ length out
-    way-room h b = omega (arith, v .count, v .long, v .room, rest-length h b)
+    pub way-room : i < 40 → isBad i ≡ true → k + length (path p i) ≤ length out
+    way-room h b = omega (arith, count-room e ws gs cs fs q p₀ f₀ (v .counting) h b, v .long, v .room)
 
-    pub code-room : (out′ : List ℕ) (at : ℕ) → i < 40 → bad i ≡ true → (at ≡ k + length (path p i)) × (out′ ≡ sets out k (path p i))
+    pub code-room : (out′ : List ℕ) (at : ℕ) → i < 40 → isBad i ≡ true
+        → (at ≡ k + length (path p i)) × (out′ ≡ sets out k (path p i))
         → at + length (switch e f (getD gs i 0)) < length out′
     code-room out′ at h b d =
         let l : length out′ ≡ length out = ap length (d .1) ∙ length-sets out k (path p i) in
-        let w = length-append (switch e f (getD gs i 0)) (getD ws i 0 ∷ []) in
-        omega (arith, v .count, v .long, v .room, rest-length h b, d .0, l, w)
+        let w = written-length e ws gs cs fs q p₀ f₀ f i in
+        omega (arith, count-room e ws gs cs fs q p₀ f₀ (v .counting) h b, v .long, v .room, d .0, l, w)
 
-    pub plan-write : (mid out′ : List ℕ) (at p′ f′ k′ : ℕ) → i < 40 → bad i ≡ true
+    pub plan-write : (mid out′ : List ℕ) (at p′ f′ k′ : ℕ) → i < 40 → isBad i ≡ true
         → (at ≡ k + length (path p i)) × (mid ≡ sets out k (path p i))
-        → (k′ ≡ at + length (written f i)) × (out′ ≡ sets mid at (written f i)) → p′ ≡ next i → f′ ≡ getD gs i 0
-        → Planning out₀ out′ p′ f′ k′ (i + 1)
+        → (k′ ≡ at + length (here f i)) × (out′ ≡ sets mid at (here f i)) → p′ ≡ next i → f′ ≡ getD gs i 0
+        → Planning k₀ out₀ out′ p′ f′ k′ (i + 1)
     plan-write mid out′ at p′ f′ k′ h x d b ep ef =
-        let r = rest-write h x in
-        rw (ep, ef)
-        (record {
-          upto = omega arith;
-          inside = next-below i h;
-          count = omega (arith, v .count, rest-length h x, d .0, b .0);
+        record {
+          counting = count-write e ws gs cs fs q p₀ f₀ (v .counting) p′ f′ k′ h x (omega (arith, d .0, b .0)) ep ef;
           same =
-              v .same ∙ ap (λ (l : List ℕ). sets out k l) r ∙ sets-append out k (path p i) (written f i ++ behind i)
-              ∙ sets-append (sets out k (path p i)) (k + length (path p i)) (written f i) (behind i)
-              ∙ rw (b .0, b .1, d .0, d .1);
-          long = ap length (b .1) ∙ length-sets mid at (written f i) ∙ ap length (d .1) ∙ length-sets out k (path p i) ∙ v .long;
+              v .same ∙ ap (λ (l : List ℕ). sets out k l) (rest-write e ws gs cs fs q p₀ f₀ p f i h x)
+              ∙ sets-append out k (path p i) (here f i ++ left (next i) (getD gs i 0) (i + 1))
+              ∙ sets-append (sets out k (path p i)) (k + length (path p i)) (here f i) (left (next i) (getD gs i 0) (i + 1))
+              ∙ rw (ep, ef, b .0, b .1, d .0, d .1);
+          long = ap length (b .1) ∙ length-sets mid at (here f i) ∙ ap length (d .1) ∙ length-sets out k (path p i) ∙ v .long;
           room = v .room;
-        })
-
-    rest-end : 40 ≤ i → rest p f i ≡ path p q
-    unfolding rest flagged fontsPlanOf
-    rest-end h = ap (λ (n : ℕ). fontsPlanOf e ws (λ j. getD gs j 0) q p f (flagged bad n i)) (zero-left i h)
-      where
-        zero-left : (i : ℕ) → 40 ≤ i → 40 - i ≡ 0
-        zero-left i h = omega arith
+        }
 
     -- room for the way to the asked cursor, and the end
     pub end-room : 40 ≤ i → k + length (path p q) ≤ length out
-    end-room h = omega (arith, v .count, v .long, v .room, ap length (rest-end h))
+    end-room h = omega (arith, count-end e ws gs cs fs q p₀ f₀ (v .counting) h, v .long, v .room)
 
     pub plan-end : (out′ : List ℕ) (at : ℕ) → 40 ≤ i → (at ≡ k + length (path p q)) × (out′ ≡ sets out k (path p q))
-        → (at ≡ length planIn) × (out′ ≡ atStart planIn out₀)
+        → (at ≡ k₀ + length whole) × (out′ ≡ sets out₀ k₀ whole)
     plan-end out′ at h d = (
-      omega (arith, d .0, v .count, ap length (rest-end h)),
-      d .1 ∙ ap (λ (l : List ℕ). sets out k l) (sym (rest-end h)) ∙ sym (v .same) ∙ put-front out₀ planIn (v .room),
+      d .0 ∙ count-end e ws gs cs fs q p₀ f₀ (v .counting) h,
+      d .1 ∙ ap (λ (l : List ℕ). sets out k l) (sym (rest-end e ws gs cs fs q p₀ f₀ p f i h)) ∙ sym (v .same),
     )
 
     pub end-long : (out′ : List ℕ) → out′ ≡ sets out k (path p q) → length out′ ≡ length out₀

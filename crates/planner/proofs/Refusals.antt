@@ -1,11 +1,11 @@
 -- What a refusal number says: 0 that the condition can be planned from, any other that nothing changes.
-use mathlib.Core.Path.{_≡_, refl, sym, ap, _∙_}
+use mathlib.Core.Path.{_≡_, refl, sym, subst⁻¹, _∙_}
 use mathlib.Core.Bool.{Bool, true, false, not, _&&_, _||_}
 use mathlib.Core.List.{List, [], _∷_}
 use Prim.Native.Nat.{ℕ, zero, suc, _≤_, _<_}
 use native.Mathlib.Omega.{arith}
 use lib.Dec.{eqb, ltb, leb}
-use lib.ListN.{length, getD, replicate}
+use lib.ListN.{length, getD, replicate, length-replicate}
 use lib.Seq.{take-append-seam}
 use borrow.Author.Tests.{eqb-true, ne-eqb, ltb-false, leb-true, not-false}
 use Rattle.laws.proofs.Tests.{by-cases, clash, both, neither, passed}
@@ -14,17 +14,22 @@ use Rattle.users.specs.Users.{isUser}
 use Rattle.condition.specs.declared.Condition.{Condition}
 use Rattle.condition.specs.Condition.{idle, wellFormed, allUpTo}
 use Rattle.condition.specs.Bytes.{isChar}
+use Rattle.condition.specs.Steps.{eitherStart}
 use Rattle.condition.proofs.Characters.{plain-char, user-char, no-char}
 use Rattle.condition.proofs.Good.{good}
-use Rattle.condition.proofs.Ranges.{up-to-at}
-use Rattle.moves.specs.Moves.{any, moves}
+use Rattle.condition.proofs.Ranges.{up-to-at, at-up-to, up-to-replicate}
+use Rattle.moves.specs.Moves.{any, moves, numbersOf, Numbers}
+use Rattle.moves.proofs.Entries.{numbers-right}
 use Rattle.moves.proofs.Moving.{each-move}
 use Rattle.moves.proofs.Interpreter.{ready}
 use Rattle.planner.specs.declared.Planned.{Planned}
-use Rattle.planner.specs.Plan.{atStart, plan, Delivers}
-use Rattle.planner.specs.Fonts.{fontsPlan, FontsDelivers}
+use Rattle.planner.specs.Plan.{atStart, Delivers}
+use Rattle.planner.specs.Fonts.{FontsDelivers}
+use Rattle.planner.specs.Clear.{eitherPlan, eitherFontsPlan}
+use Rattle.planner.specs.Given.{Given}
 use Rattle.planner.specs.Answer.{onMove, onSwitch, lacks, someLacks, refusalBy, planRefusal, fontsRefusal, bytesBy, Promise}
-use Rattle.planner.proofs.Demand.{Plannable, Switchable, plan-most, delivers, fonts-most, fonts-deliver, one-font}
+use Rattle.planner.proofs.Serving.{Plannable}
+use Rattle.planner.proofs.Demand.{Switchable, either-delivers, either-fonts-deliver}
 
 -- no refusal is given
 record Unrefused (long ranged blocked short : Bool) (c : Condition) (wanted : List ℕ) : Type 0 where
@@ -179,24 +184,45 @@ fonts-accepted c wanted fonts asked room e =
 
 -- what the accepted plans are for
 pub plan-delivers : (c : Condition) (wanted : List ℕ) (asked room : ℕ) → planRefusal c wanted asked room ≡ 0
-    → length (c .codes) ≡ 40 → length (c .fonts) ≡ 40 → Delivers c wanted asked (plan c wanted asked)
-plan-delivers c wanted asked room e lc lf = delivers c wanted asked (accepted c wanted asked room e .0 .plannable lc lf)
+    → length (c .codes) ≡ 40 → length (c .fonts) ≡ 40 → Delivers (eitherStart false) c wanted asked (eitherPlan c wanted asked)
+plan-delivers c wanted asked room e lc lf = either-delivers c wanted asked (accepted c wanted asked room e .0 .plannable lc lf)
 
 pub fonts-plan-delivers : (c : Condition) (wanted fonts : List ℕ) (asked room : ℕ) → fontsRefusal c wanted fonts asked room ≡ 0
-    → length (c .codes) ≡ 40 → length (c .fonts) ≡ 40 → FontsDelivers c wanted fonts asked (fontsPlan c wanted fonts asked)
+    → length (c .codes) ≡ 40 → length (c .fonts) ≡ 40
+    → FontsDelivers (eitherStart true) c wanted fonts asked (eitherFontsPlan c wanted fonts asked)
 fonts-plan-delivers c wanted fonts asked room e lc lf =
     let t = fonts-accepted c wanted fonts asked room e .0 in
-    fonts-deliver c wanted fonts asked (t .codes .plannable lc lf) (t .switchable)
+    either-fonts-deliver c wanted fonts asked (t .codes .plannable lc lf) (t .switchable)
 
--- and their room
-pub plan-fits : (c : Condition) (wanted : List ℕ) (asked room : ℕ) → 44 ≤ room
-    → length (fontsPlan c wanted (replicate 40 (c .font)) asked) ≤ room
-plan-fits c wanted asked room r = omega (arith, ap length (one-font c wanted asked), plan-most c wanted asked)
+-- and what puts them is given what it asks for
+pub plan-given : (c : Condition) (wanted : List ℕ) (asked : ℕ) → Accepted c wanted asked
+    → Given c wanted (replicate 40 (c .font)) asked
+plan-given c wanted asked t =
+    record {
+      wanted-40 = t .wanted-40;
+      fonts-40 = length-replicate 40 (c .font);
+      fonts-1 = up-to-replicate 1 40 (c .font) (t .font-1);
+      font-1 = t .font-1;
+      cursor-40 = t .cursor-40;
+      asked-40 = t .asked-40;
+    }
 
-pub fonts-fit : (c : Condition) (wanted fonts : List ℕ) (asked room : ℕ) → FontsAccepted c wanted fonts asked → 104 ≤ room
-    → length (fontsPlan c wanted fonts asked) ≤ room
-fonts-fit c wanted fonts asked room t r =
-    omega (arith, fonts-most c wanted fonts asked (t .switchable .wanted-fonts-1) (t .codes .font-1))
+pub fonts-given : (c : Condition) (wanted fonts : List ℕ) (asked : ℕ) → FontsAccepted c wanted fonts asked
+    → Given c wanted fonts asked
+fonts-given c wanted fonts asked t =
+    let u = t .codes in
+    record {
+      wanted-40 = u .wanted-40;
+      fonts-40 = t .fonts-40;
+      fonts-1 = at-up-to 1 fonts (t .switchable .wanted-fonts-1);
+      font-1 = u .font-1;
+      cursor-40 = u .cursor-40;
+      asked-40 = u .asked-40;
+    }
+
+-- the table that is lent is that of the moves
+pub right-numbers : (table : List (List ℕ)) → table ≡ numbersOf → Numbers table
+right-numbers table e = subst⁻¹ (λ (rows : List (List ℕ)). Numbers rows) e numbers-right
 
 -- Answers -------------------------------------------------------------------------------------------------------------------------
 

@@ -1,6 +1,6 @@
 -- The canvas is the module itself, where that is in mode 1 and reads the planner's steps.
 use mathlib.Core.Path.{_≡_, refl, sym, ap, _∙_}
-use mathlib.Core.Bool.{Bool, true, false, cond, not, _&&_, _||_, or-false, and-not-self}
+use mathlib.Core.Bool.{Bool, true, false, cond, not, _&&_, _||_, or-false}
 use mathlib.Core.List.{List, [], _∷_}
 use Prim.Native.Nat.{ℕ, _<_}
 use native.Mathlib.Numerals.{add-one}
@@ -12,16 +12,14 @@ use Rattle.users.specs.Users.{isUser}
 use Rattle.condition.specs.declared.Condition.{Condition}
 use Rattle.condition.specs.declared.Pending.{Pending}
 use Rattle.condition.specs.declared.Pending.the-variants.{Nothing, Escape, Position}
-use Rattle.condition.specs.Condition.{idle}
 use Rattle.condition.specs.Set.{withCells, withCursor, withPending, withFont, withEuro}
 use Rattle.condition.specs.Bytes as B
 use Rattle.condition.specs.Bytes.{isChar, controlOf, escapeOf, stepOf, runOf}
-use Rattle.condition.specs.Steps.{stepByte, lowAfter, inOrder, readingOrder}
+use Rattle.condition.specs.Steps.{stepByte, lowAfter, owed, switchByte, nextByte, inOrder, readingOrder}
 use Rattle.moves.specs.Moves.{any, moves}
 use Rattle.moves.proofs.Moving.{next-below, move-below}
 use Rattle.condition.proofs.Characters.{no-user}
 use Rattle.moves.proofs.Interpreter.{Ready, moves-to, escapes, writes, placed, is-move}
-use Rattle.planner.specs.Fonts.{owed, fontByte, inFontOrder, fontOrder}
 use Rattle.planner.proofs.Canvas.{Part, none, escape, place, back, Canvas, canvas, whole}
 use Rattle.planner.proofs.Canvas.{stepAt, step, run, allowed, lowAt, ordered, by-kind}
 
@@ -73,6 +71,28 @@ owes none = false
 owes escape = false
 owes place = false
 owes back = true
+
+-- where the mark is as it was at the start nothing is owed
+never-owed : (s e : Bool) → (s && e && not e) ≡ false
+never-owed true true = refl
+never-owed true false = refl
+never-owed false e = refl
+
+-- within a step no switch comes
+no-switch : (s t : Bool) → (t || (s && false)) ≡ t
+no-switch true true = refl
+no-switch true false = refl
+no-switch false t = or-false t
+
+-- between steps: a character write, a one-byte move or 1Bh, a switch
+by-char : (s t l m e x : Bool) → (cond t l (m || e) || (s && (not t && x))) ≡ cond t l (cond e true (cond m true (s && x)))
+by-char s true true m e x = refl
+by-char true true false m e x = refl
+by-char false true false m e x = refl
+by-char s false l true true x = refl
+by-char s false l true false x = refl
+by-char s false l false true x = refl
+by-char s false l false false x = refl
 
 module _ (switching : Bool) (c : Condition) (r : Ready c) where
   abbrev goes : Part → ℕ → ℕ → List ℕ → List ℕ → ℕ → Canvas
@@ -163,28 +183,39 @@ module _ (switching : Bool) (c : Condition) (r : Ready c) where
   embedded : c ≡ embed c (canvasOf c)
   embedded = λ i. withPending c (r .whole i)
 
-  -- and so are the strings, by any test of a string that ends so and takes each byte so
-  module _ (In : Condition → ℕ → List ℕ → Bool)
-      (ends-so : (k : Part) (p lo f : ℕ) (cs fs : List ℕ) → Fits k → In (stands c k p f cs fs) lo [] ≡ whole k)
-      (takes-so : (k : Part) (p lo f : ℕ) (cs fs : List ℕ) (b : ℕ) (bs : List ℕ) → Fits k
-      → In (stands c k p f cs fs) lo (b ∷ bs)
-      ≡ (may k p lo b && In (stepOf (stands c k p f cs fs) b) (lowAfter (stands c k p f cs fs) lo b) bs)) where
-    orders : (bs : List ℕ) (k : Part) (p lo f : ℕ) (cs fs : List ℕ) → p < 40 → Fits k
-        → In (stands c k p f cs fs) lo bs ≡ ordered switching (c .euro) (isChar c) (canvas k p f cs fs) lo bs
-    orders [] k p lo f cs fs h m = ends-so k p lo f cs fs m
-    orders (b ∷ bs) k p lo f cs fs h m =
-        let g = goes k p f cs fs b in
-        takes-so k p lo f cs fs b bs m
-        ∙ and-same (may k p lo b)
-        (λ a. let n = inside k p lo f cs fs b h a in
-        ap (λ (l : ℕ). In (stepOf (stands c k p f cs fs) b) l bs) (next-low k p lo f cs fs b a)
-        ∙ ap (λ (d : Condition). In d (low k p lo b) bs) (same k p lo f cs fs b h m a)
-        ∙ orders bs (g .part) (g .cursor) (low k p lo b) (g .font) (g .codes) (g .fonts) (n .0) (n .1))
+  -- and so is what may come next
+  may-come : (k : Part) (p lo f : ℕ) (cs fs : List ℕ) (b : ℕ) → Fits k
+      → nextByte switching (c .euro) (stands c k p f cs fs) lo b ≡ may k p lo b
+  unfolding nextByte owed switchByte stepByte allowed isChar
+  may-come none p lo f cs fs b m =
+      rw (never-owed switching (c .euro), is-move b)
+      (by-char switching (isChar c b) (leb lo p) (any (eqb b) moves) (eqb b 0x1B) (eqb b 0x18 || eqb b 0x19))
+  may-come escape p lo f cs fs b m = rw (never-owed switching (c .euro)) (no-switch switching (eqb b 0x48))
+  may-come place p lo f cs fs b m = rw (never-owed switching (c .euro)) (no-switch switching (leb b 0x27))
+  may-come back p lo f cs fs b m = rw (m refl .0, m refl .1)
 
-    orders-from : (bs : List ℕ) → In c 0 bs ≡ orderedFrom switching c bs
-    orders-from bs =
-        ap (λ (d : Condition). In d 0 bs) embedded
-        ∙ orders bs none (c .cursor) 0 (c .font) (c .codes) (c .fonts) (r .inside) (λ x. clash x refl)
+  may-end : (k : Part) (p lo f : ℕ) (cs fs : List ℕ) → Fits k → inOrder switching (c .euro) (stands c k p f cs fs) lo [] ≡ whole k
+  unfolding inOrder owed whole
+  may-end none p lo f cs fs m = rw (never-owed switching (c .euro))
+  may-end escape p lo f cs fs m = refl
+  may-end place p lo f cs fs m = refl
+  may-end back p lo f cs fs m = rw (m refl .0, m refl .1)
+
+  -- so the strings are the same
+  orders : (bs : List ℕ) (k : Part) (p lo f : ℕ) (cs fs : List ℕ) → p < 40 → Fits k
+      → inOrder switching (c .euro) (stands c k p f cs fs) lo bs
+      ≡ ordered switching (c .euro) (isChar c) (canvas k p f cs fs) lo bs
+  unfolding inOrder
+  orders [] k p lo f cs fs h m = may-end k p lo f cs fs m
+  orders (b ∷ bs) k p lo f cs fs h m =
+      let d = stands c k p f cs fs in
+      let g = goes k p f cs fs b in
+      rw (may-come k p lo f cs fs b m)
+      (and-same (may k p lo b)
+      (λ a. let n = inside k p lo f cs fs b h a in
+      ap (λ (l : ℕ). inOrder switching (c .euro) (stepOf d b) l bs) (next-low k p lo f cs fs b a)
+      ∙ ap (λ (d : Condition). inOrder switching (c .euro) d (low k p lo b) bs) (same k p lo f cs fs b h m a)
+      ∙ orders bs (g .part) (g .cursor) (low k p lo b) (g .font) (g .codes) (g .fonts) (n .0) (n .1)))
 
   -- From c itself -----------------------------------------------------------------------------------------------------------
 
@@ -193,71 +224,12 @@ module _ (switching : Bool) (c : Condition) (r : Ready c) where
       ap (λ (d : Condition). runOf d bs) embedded
       ∙ runs bs none (c .cursor) 0 (c .font) (c .codes) (c .fonts) (r .inside) (λ x. clash x refl) o
 
--- The strings of document 01's steps ---------------------------------------------------------------------------------------------
-
-module _ (c : Condition) (r : Ready c) where
-  plain-byte : (k : Part) (p lo f : ℕ) (cs fs : List ℕ) (b : ℕ) → Fits false c r k
-      → stepByte (pendingAt k) (stands c k p f cs fs) lo b ≡ allowed false (c .euro) (isChar c) k p lo b
-  unfolding stepByte allowed isChar
-  plain-byte none p lo f cs fs b m = ap (cond (isChar c b) (leb lo p)) (rw (is-move b) (either (any (eqb b) moves) (eqb b 0x1B)))
-    where
-      either : (m s : Bool) → (m || s) ≡ cond s true (cond m true false)
-      either true true = refl
-      either true false = refl
-      either false true = refl
-      either false false = refl
-  plain-byte escape p lo f cs fs b m = refl
-  plain-byte place p lo f cs fs b m = refl
-  plain-byte back p lo f cs fs b m = clash (m refl .0) refl
-
-  plain-ends : (k : Part) → Fits false c r k → idle (pendingAt k) ≡ whole k
-  unfolding whole
-  plain-ends none m = refl
-  plain-ends escape m = refl
-  plain-ends place m = refl
-  plain-ends back m = clash (m refl .0) refl
-
-  pub order-is : (bs : List ℕ) → readingOrder c bs ≡ orderedFrom false c bs
-  unfolding readingOrder inOrder
+  pub order-is : (bs : List ℕ) → readingOrder switching c bs ≡ orderedFrom switching c bs
+  unfolding readingOrder
   order-is bs =
       rw (eq-eqb (c .mode) 1 (r .one))
-      (orders-from false c r inOrder (λ k p lo f cs fs m. plain-ends k m)
-      (λ k p lo f cs fs b bs m. rw (plain-byte k p lo f cs fs b m)) bs)
-
-  -- The strings of the larger set of steps ---------------------------------------------------------------------------------------
-
-  font-byte : (k : Part) (p lo f : ℕ) (cs fs : List ℕ) (b : ℕ) → Fits true c r k
-      → fontByte (c .euro) (stands c k p f cs fs) lo b ≡ allowed true (c .euro) (isChar c) k p lo b
-  unfolding fontByte owed stepByte allowed isChar
-  font-byte none p lo f cs fs b m =
-      rw (and-not-self (c .euro), is-move b)
-      (by-char (isChar c b) (leb lo p) (any (eqb b) moves) (eqb b 0x1B) (eqb b 0x18 || eqb b 0x19))
-    where
-      by-char : (t l m s x : Bool) → (cond t l (m || s) || (not t && x)) ≡ cond t l (cond s true (cond m true x))
-      by-char true true m s x = refl
-      by-char true false m s x = refl
-      by-char false l true true x = refl
-      by-char false l true false x = refl
-      by-char false l false true x = refl
-      by-char false l false false x = refl
-  font-byte escape p lo f cs fs b m = rw (and-not-self (c .euro)) (or-false (eqb b 0x48))
-  font-byte place p lo f cs fs b m = rw (and-not-self (c .euro)) (or-false (leb b 0x27))
-  font-byte back p lo f cs fs b m = rw (m refl .1)
-
-  font-ends : (k : Part) (p f : ℕ) (cs fs : List ℕ) → Fits true c r k
-      → (idle (pendingAt k) && not (owed (c .euro) (stands c k p f cs fs))) ≡ whole k
-  unfolding whole owed
-  font-ends none p f cs fs m = rw (and-not-self (c .euro))
-  font-ends escape p f cs fs m = refl
-  font-ends place p f cs fs m = refl
-  font-ends back p f cs fs m = rw (m refl .1)
-
-  pub font-order-is : (bs : List ℕ) → fontOrder c bs ≡ orderedFrom true c bs
-  unfolding fontOrder inFontOrder
-  font-order-is bs =
-      rw (eq-eqb (c .mode) 1 (r .one))
-      (orders-from true c r (inFontOrder (c .euro)) (λ k p lo f cs fs m. font-ends k p f cs fs m)
-      (λ k p lo f cs fs b bs m. rw (font-byte k p lo f cs fs b m)) bs)
+      (ap (λ (d : Condition). inOrder switching (c .euro) d 0 bs) embedded
+      ∙ orders bs none (c .cursor) 0 (c .font) (c .codes) (c .fonts) (r .inside) (λ x. clash x refl))
 
 -- a reading-order string leaves nothing half received
 whole-is : (k : Part) → whole k ≡ true → k ≡ none

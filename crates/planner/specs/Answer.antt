@@ -1,17 +1,19 @@
--- What the planners answer (document 01, Refusal numbers and their order; document 02, W1).
+-- What the planners answer (document 01, Refusal numbers and their order; document 02, W1 and W4).
 use Prim.Native.Nat.{ℕ}
 use mathlib.Core.Path.{_≡_}
 use mathlib.Core.List.{List, [], _∷_}
-use mathlib.Core.Bool.{Bool, false, cond, not, _&&_, _||_}
+use mathlib.Core.Bool.{Bool, true, false, cond, not, _&&_, _||_}
 use lib.ListN.{length, take}
 use lib.Dec.{eqb, ltb, leb}
 use Rattle.users.specs.declared.Users.{Users}
 use Rattle.users.specs.Users.{isUser}
 use Rattle.condition.specs.declared.Condition.{Condition}
 use Rattle.condition.specs.Condition.{idle, wellFormed, allUpTo}
+use Rattle.condition.specs.Steps.{eitherStart}
 use Rattle.planner.specs.declared.Planned.{Planned}
-use Rattle.planner.specs.Plan.{atStart, plan, Delivers}
-use Rattle.planner.specs.Fonts.{fontsPlan, FontsDelivers}
+use Rattle.planner.specs.Plan.{atStart, Delivers}
+use Rattle.planner.specs.Fonts.{FontsDelivers}
+use Rattle.planner.specs.Clear.{eitherPlan, eitherFontsPlan}
 
 -- Refusals ------------------------------------------------------------------------------------------------------------------------
 
@@ -77,10 +79,11 @@ pub record Promise (number : ℕ) (bytes : List ℕ) (For : List ℕ → Type 0)
 -- what `plan` promises
 abbrev pub Plans : Condition → List ℕ → ℕ → List ℕ → List ℕ → Planned → Type 0
 Plans c wanted asked before after r =
-    Promise (planRefusal c wanted asked (length before)) (plan c wanted asked) (Delivers c wanted asked) before after r
+    Promise (planRefusal c wanted asked (length before)) (eitherPlan c wanted asked)
+    (Delivers (eitherStart false) c wanted asked) before after r
 
 -- what `plan_fonts` promises
 abbrev pub PlansFonts : Condition → List ℕ → List ℕ → ℕ → List ℕ → List ℕ → Planned → Type 0
 PlansFonts c wanted fonts asked before after r =
-    Promise (fontsRefusal c wanted fonts asked (length before)) (fontsPlan c wanted fonts asked)
-    (FontsDelivers c wanted fonts asked) before after r
+    Promise (fontsRefusal c wanted fonts asked (length before)) (eitherFontsPlan c wanted fonts asked)
+    (FontsDelivers (eitherStart true) c wanted fonts asked) before after r

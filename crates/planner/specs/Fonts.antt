@@ -1,39 +1,16 @@
--- Two fonts in one picture (document 02, W1): the larger set of steps, the plan, and what it is for.
+-- Two fonts in one picture (document 02, W1): the plan without a clear, and what such a plan is for.
 use Prim.Native.Nat.{ℕ, _≤_}
 use mathlib.Core.Path.{_≡_}
 use mathlib.Core.List.{List, [], _∷_, _++_}
-use mathlib.Core.Bool.{Bool, true, cond, not, _&&_, _||_}
+use mathlib.Core.Bool.{Bool, true, cond, not, _&&_}
 use lib.ListN.{length, getD}
 use lib.Dec.{eqb}
 use Rattle.condition.specs.declared.Condition.{Condition}
-use Rattle.condition.specs.Condition.{idle}
 use Rattle.condition.specs.Set.{withCells, withCursor, withFont}
-use Rattle.condition.specs.Bytes.{isChar, stepOf, runOf}
-use Rattle.condition.specs.Steps.{stepByte, lowAfter}
+use Rattle.condition.specs.Bytes.{runOf}
 use Rattle.moves.specs.Moves.{next}
 use Rattle.moves.specs.Ways.{path}
 use Rattle.planner.specs.Plan.{flagged, Pictured}
-
--- The steps ---------------------------------------------------------------------------------------------------------------------
-
--- 18h was sent while the Euro mark was on: 1Ah comes next, so the mark is as before
-unfoldable pub owed : Bool → Condition → Bool
-owed mark c = mark && not (c .euro)
-
--- the next byte of a string of steps: one of document 01's, or 19h, or 18h, where no user character sits there
-unfoldable pub fontByte : Bool → Condition → ℕ → ℕ → Bool
-fontByte mark c low b =
-    cond (owed mark c) (not (isChar c b) && eqb b 0x1A)
-    (stepByte (c .pending) c low b || (idle (c .pending) && not (isChar c b) && (eqb b 0x18 || eqb b 0x19)))
-
--- a string of these steps only, whole, each written cell at a higher position than the one written before
-unfoldable pub inFontOrder : Bool → Condition → ℕ → List ℕ → Bool
-inFontOrder mark c low [] = idle (c .pending) && not (owed mark c)
-inFontOrder mark c low (b ∷ bs) = fontByte mark c low b && inFontOrder mark (stepOf c b) (lowAfter c low b) bs
-
--- a reading-order string of the larger set of steps, all in mode 1
-unfoldable pub fontOrder : Condition → List ℕ → Bool
-fontOrder c bs = eqb (c .mode) 1 && inFontOrder (c .euro) c 0 bs
 
 -- The plan ----------------------------------------------------------------------------------------------------------------------
 
@@ -66,11 +43,12 @@ fontsPlan c wanted fonts asked =
 abbrev pub picturedIn : Condition → List ℕ → List ℕ → ℕ → ℕ → Condition
 picturedIn c wanted fonts asked f = withFont (withCursor (withCells c wanted fonts) asked) f
 
--- the bytes give the picture and the cursor and leave everything else but the selected font, which is free at the end; they are a
--- reading-order string of the larger set of steps; no such string after which the picture is there is shorter; and they are at
--- most 104
-pub record FontsDelivers (c : Condition) (wanted fonts : List ℕ) (asked : ℕ) (bytes : List ℕ) : Type 0 where
+-- the bytes give the picture and the cursor and leave everything else but the selected font, which is free at the end; they are one
+-- of the strings that are allowed; no such string after which the picture is there is shorter; and they are at most 104. Allowed
+-- are the strings of the larger set of steps (`readingOrder true`), or those of both kinds of start (`eitherStart true`)
+pub record FontsDelivers (Allowed : Condition → List ℕ → Bool) (c : Condition) (wanted fonts : List ℕ) (asked : ℕ) (bytes : List ℕ)
+    : Type 0 where
   pub gives : runOf c bytes ≡ picturedIn c wanted fonts asked (runOf c bytes .font)
-  pub ordered : fontOrder c bytes ≡ true
-  pub fewest : (bs : List ℕ) → fontOrder c bs ≡ true → Pictured (runOf c bs) wanted fonts asked → length bytes ≤ length bs
+  pub ordered : Allowed c bytes ≡ true
+  pub fewest : (bs : List ℕ) → Allowed c bs ≡ true → Pictured (runOf c bs) wanted fonts asked → length bytes ≤ length bs
   pub most : length bytes ≤ 104

@@ -1,3 +1,5 @@
 pub mod Plan
 pub mod Fonts
+pub mod Clear
+pub mod Given
 pub mod Answer

@@ -1,4 +1,4 @@
--- The plan (document 01, Planner's steps), and what it is for: demand 3.
+-- The plan without a clear (document 01, Planner's steps), and what a plan is for: demand 3.
 use Prim.Native.Nat.{ℕ, zero, suc, _≤_}
 use mathlib.Core.Path.{_≡_}
 use mathlib.Core.List.{List, [], _∷_, _++_}
@@ -7,7 +7,7 @@ use lib.ListN.{length, getD, drop, replicate}
 use Rattle.condition.specs.declared.Condition.{Condition}
 use Rattle.condition.specs.Set.{withCells, withCursor}
 use Rattle.condition.specs.Bytes.{runOf}
-use Rattle.condition.specs.Steps.{readingOrder, wrong}
+use Rattle.condition.specs.Steps.{wrong}
 use Rattle.moves.specs.Moves.{next}
 use Rattle.moves.specs.Ways.{path}
 
@@ -39,11 +39,13 @@ pub record Pictured (c : Condition) (wanted wantedFonts : List ℕ) (asked : ℕ
   pub fonts : c .fonts ≡ wantedFonts
   pub cursor : c .cursor ≡ asked
 
--- Demand 3: the bytes give the picture and the cursor and leave everything else, by what a byte does; they are a reading-order
--- string; no reading-order string after which the picture is there is shorter; and they are at most 44
-pub record Delivers (c : Condition) (wanted : List ℕ) (asked : ℕ) (bytes : List ℕ) : Type 0 where
+-- Demand 3: the bytes give the picture and the cursor and leave everything else, by what a byte does; they are one of the strings
+-- that are allowed; no such string after which the picture is there is shorter; and they are at most 44. Allowed are the
+-- reading-order strings (`readingOrder false`), or those of both kinds of start (`eitherStart false`; document 02, W4)
+pub record Delivers (Allowed : Condition → List ℕ → Bool) (c : Condition) (wanted : List ℕ) (asked : ℕ) (bytes : List ℕ)
+    : Type 0 where
   pub gives : runOf c bytes ≡ pictured c wanted asked
-  pub ordered : readingOrder c bytes ≡ true
-  pub fewest : (bs : List ℕ) → readingOrder c bs ≡ true → Pictured (runOf c bs) wanted (replicate 40 (c .font)) asked
+  pub ordered : Allowed c bytes ≡ true
+  pub fewest : (bs : List ℕ) → Allowed c bs ≡ true → Pictured (runOf c bs) wanted (replicate 40 (c .font)) asked
       → length bytes ≤ length bs
   pub most : length bytes ≤ 44

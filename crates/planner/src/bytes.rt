@@ -1,4 +1,7 @@
 // The bytes of a plan.
+use crate::starts::codes_at;
+use crate::starts::differs;
+use crate::starts::fonts_at;
 use crate::ways::put_way;
 use condition::Condition;
 use moves::Distances;
@@ -9,14 +12,9 @@ ghost use lib.ListN.{length};
 ghost use lib.Seq.{sets};
 ghost use Rattle.moves.specs.Moves.{Numbers};
 ghost use Rattle.planner.specs.Plan.{atStart};
-ghost use Rattle.planner.specs.Fonts.{wrongCell, switch, fontsPlan};
-
-// A cell has another code or another font than the wanted one.
-fn differs(code: u8, font: u8, wanted: u8, face: u8) -> bool
-    ensures { λ r. ⌜ r ≡ wrongCell code font wanted face ⌝ }
-{
-    !((code == wanted) & (font == face))
-}
+ghost use Rattle.planner.specs.Fonts.{switch};
+ghost use Rattle.planner.specs.Clear.{clearing, fontsBy};
+ghost use Rattle.planner.specs.Given.{Given};
 
 // Puts the switch from a font to another at k; answers the place behind it.
 fn put_switch(out: &mut [u8], k: usize, euro: bool, from: u8, to: u8) -> usize
@@ -50,26 +48,39 @@ fn put_code(out: &mut [u8], k: usize, euro: bool, from: u8, to: u8, code: u8) ->
     at + 1
 }
 
-// Puts the plan for the wanted codes in the wanted fonts at the start of out; answers its length.
+// Puts 0Eh at the start of out, or nothing; answers the place behind it.
+fn put_clear(out: &mut [u8], clear: bool) -> usize
+    requires { ⌜ length (clearing clear) ≤ length (now out) ⌝ }
+    ensures { λ r. ⌜ (r ≡ length (clearing clear)) × (now (out .exit) ≡ sets (now (out .entry)) 0 (clearing clear)) ⌝ }
+{
+    if clear {
+        out[0] = 0x0E;
+        return 1;
+    }
+    0
+}
+
+// Puts the plan for the wanted codes in the wanted fonts at the start of out, with the clear or without it; answers its length.
 pub(crate) fn put_plan(
     table: &Distances,
     c: Condition,
+    clear: bool,
     wanted: &[u8],
     fonts: &[u8],
     asked: u8,
     out: &mut [u8],
 ) -> usize
-    requires { ⌜ (length (now wanted) ≡ 40) × (length (now fonts) ≡ 40) × (c .cursor < 40) × (asked < 40)
-        × (length (fontsPlan c (now wanted) (now fonts) asked) ≤ length (now out)) × Numbers (now table) ⌝ }
-    ensures { λ r. ⌜ (r ≡ length (fontsPlan c (now (wanted .entry)) (now (fonts .entry)) asked))
-        × (now (out .exit) ≡ atStart (fontsPlan c (now (wanted .entry)) (now (fonts .entry)) asked) (now (out .entry))) ⌝ }
+    requires { ⌜ Given c (now wanted) (now fonts) asked × Numbers (now table)
+        × (length (fontsBy clear c (now wanted) (now fonts) asked) ≤ length (now out)) ⌝ }
+    ensures { λ r. ⌜ (r ≡ length (fontsBy clear c (now (wanted .entry)) (now (fonts .entry)) asked))
+        × (now (out .exit) ≡ atStart (fontsBy clear c (now (wanted .entry)) (now (fonts .entry)) asked) (now (out .entry))) ⌝ }
 {
-    let codes = c.codes;
-    let standing = c.fonts;
+    let codes = codes_at(c, clear);
+    let standing = fonts_at(c, clear);
     let euro = c.euro;
     let mut p = c.cursor;
     let mut selected = c.font;
-    let mut k: usize = 0;
+    let mut k = put_clear(out, clear);
     let mut i: u8 = 0;
     while i <= Condition::LAST_PLACE {
         let j = i as usize;

@@ -8,7 +8,7 @@ ghost use Rattle.planner.specs.Answer.{onMove, onSwitch, lacks, someLack
 // The last place, as wide as what is asked.
 const LAST: u32 = Condition::LAST_PLACE as u32;
 
-fn is_user(bytes: &[u8], count: u8, code: u8) -> bool
+pub(crate) fn is_user(bytes: &[u8], count: u8, code: u8) -> bool
     ensures { λ r. ⌜ r ≡ isUser (usersIn (now (bytes .entry)) count) code ⌝ }
 {
     let f = users::find(bytes, count, code);

@@ -4,6 +4,8 @@ ghost use Rattle.planner.specs.Answer.{Plans, PlansFonts};
 
 mod bytes;
 mod checks;
+mod counts;
+mod starts;
 mod ways;
 
 // The least room for a plan in one font, and for one in two: no plan is longer.
@@ -18,7 +20,7 @@ pub struct Planned {
 }
 
 // The bytes that give the wanted codes in the selected font and the asked cursor, at the start of out; or a refusal, and
-// nothing changes.
+// nothing changes. They may start with 0Eh, which clears.
 pub fn plan(c: Condition, wanted: &[u8], asked: u32, out: &mut [u8]) -> Planned
     ensures { λ r. ⌜ Plans c (now (wanted .entry)) asked (now (out .entry)) (now (out .exit)) r ⌝ }
 {
@@ -32,7 +34,8 @@ pub fn plan(c: Condition, wanted: &[u8], asked: u32, out: &mut [u8]) -> Planned
     }
     let fonts = [c.font; Condition::CELLS];
     let table = moves::numbers();
-    let k = bytes::put_plan(&table, c, wanted, &fonts, asked as u8, out);
+    let clear = counts::clear_wins(&table, c, wanted, &fonts, asked as u8);
+    let k = bytes::put_plan(&table, c, clear, wanted, &fonts, asked as u8, out);
     Planned {
         refusal: 0,
         length: k as u8,
@@ -53,7 +56,8 @@ pub fn plan_fonts(c: Condition, wanted: &[u8], fonts: &[u8], asked: u32, out: &m
         };
     }
     let table = moves::numbers();
-    let k = bytes::put_plan(&table, c, wanted, fonts, asked as u8, out);
+    let clear = counts::clear_wins(&table, c, wanted, fonts, asked as u8);
+    let k = bytes::put_plan(&table, c, clear, wanted, fonts, asked as u8, out);
     Planned {
         refusal: 0,
         length: k as u8,

@@ -9,7 +9,7 @@ ghost use Rattle.row.specs.Row.{lineStart};
 ghost use Rattle.moves.specs.Moves.{left, down, move, dist, Numbers};
 ghost use Rattle.moves.specs.Ways.{leaves, firstByte, path};
 
-fn number(table: &Distances, from: u8, to: u8) -> u8
+pub(crate) fn number(table: &Distances, from: u8, to: u8) -> u8
     requires { ⌜ (from < 40) × (to < 40) × Numbers (now table) ⌝ }
     ensures { λ r. ⌜ r ≡ dist from to ⌝ }
 {

@@ -2,11 +2,12 @@
 -- block, running or planning, and writing back.
 use Prim.Native.Nat.{ℕ, _+_, _*_, _%_, _/_, _<_}
 use mathlib.Core.Path.{_≡_}
-use mathlib.Core.Bool.{cond, not, _&&_}
+use mathlib.Core.Bool.{true, false, cond, not, _&&_}
 use mathlib.Core.List.{List, [], _∷_, _++_}
 use lib.ListN.{length, getD, take, drop}
 use lib.Dec.{eqb, ltb, leb}
 use Rattle.condition.specs.Condition.{powerUp}
+use Rattle.condition.specs.Steps.{eitherStart}
 use Rattle.layout.specs.Layout.{conditionIn}
 use Rattle.block.specs.Block.{blockOf}
 use Rattle.block.specs.Reading.{readRefusal}
@@ -15,8 +16,9 @@ use Rattle.host.specs.Host.{hostRefusalBy, hostAnswer}
 use Rattle.interpreter.specs.declared.Tally.{Tally}
 use Rattle.interpreter.specs.declared.Ran.{Ran}
 use Rattle.interpreter.specs.Run.{runAnswer}
-use Rattle.planner.specs.Plan.{plan, Delivers}
-use Rattle.planner.specs.Fonts.{fontsPlan, FontsDelivers}
+use Rattle.planner.specs.Plan.{Delivers}
+use Rattle.planner.specs.Fonts.{FontsDelivers}
+use Rattle.planner.specs.Clear.{eitherPlan, eitherFontsPlan}
 use Rattle.planner.specs.Answer.{planRefusal, fontsRefusal, outBy}
 
 -- The tally as four-byte numbers, low byte first -------------------------------------------------------------------------
@@ -79,14 +81,14 @@ pub record HostPromise (number : ℕ) (bytes : List ℕ) (For : List ℕ → Typ
 -- what `sign_plan` promises
 abbrev pub HostPlan : List ℕ → List ℕ → ℕ → List ℕ → ℕ → List ℕ → Type 0
 HostPlan b codes cursor out r left =
-    HostPromise (hostPlanRefusal b codes cursor out) (plan (conditionIn b) codes cursor) (Delivers (conditionIn b) codes cursor)
-    out r left
+    HostPromise (hostPlanRefusal b codes cursor out) (eitherPlan (conditionIn b) codes cursor)
+    (Delivers (eitherStart false) (conditionIn b) codes cursor) out r left
 
 -- what `sign_plan_fonts` promises
 abbrev pub HostFonts : List ℕ → List ℕ → List ℕ → ℕ → List ℕ → ℕ → List ℕ → Type 0
 HostFonts b codes fonts cursor out r left =
-    HostPromise (hostFontsRefusal b codes fonts cursor out) (fontsPlan (conditionIn b) codes fonts cursor)
-    (FontsDelivers (conditionIn b) codes fonts cursor) out r left
+    HostPromise (hostFontsRefusal b codes fonts cursor out) (eitherFontsPlan (conditionIn b) codes fonts cursor)
+    (FontsDelivers (eitherStart true) (conditionIn b) codes fonts cursor) out r left
 
 -- Power-up ----------------------------------------------------------------------------------------------------------------
 

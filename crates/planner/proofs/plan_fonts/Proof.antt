@@ -1,13 +1,15 @@
-use mathlib.Core.Path.{_≡_, sym, subst⁻¹, _∙_}
-use mathlib.Core.List.{List}
-use Prim.Native.Nat.{ℕ, _≤_}
+use mathlib.Core.Path.{_≡_, sym, _∙_}
+use mathlib.Core.Bool.{true}
+use Prim.Native.Nat.{_≤_}
 use native.Mathlib.Omega.{arith}
 use lib.ListN.{length}
-use Rattle.moves.specs.Moves.{Numbers}
-use Rattle.moves.proofs.Entries.{numbers-right}
-use Rattle.planner.specs.Fonts.{fontsPlan, FontsDelivers}
+use Rattle.condition.specs.Steps.{eitherStart}
+use Rattle.planner.specs.Fonts.{FontsDelivers}
+use Rattle.planner.specs.Clear.{eitherFontsPlan}
 use Rattle.planner.specs.Answer.{fontsRefusal}
-use Rattle.planner.proofs.Refusals.{FontsAccepted, fonts-accepted, fonts-fit, fonts-plan-delivers, refused, taken-on}
+use Rattle.planner.proofs.Clear.{either-room, either-put}
+use Rattle.planner.proofs.Refusals.{FontsAccepted, fonts-accepted, fonts-plan-delivers, fonts-given, right-numbers}
+use Rattle.planner.proofs.Refusals.{refused, taken-on}
 use borrow.Author.Needs.{needs}
 use Rattle.planner.proofs.plan_fonts.Statement.{statement}
 use Rattle.planner.proofs.plan_fonts.Tie as tie
@@ -33,7 +35,8 @@ accepts c = fonts-accepted _ _ _ _ _ (unrefused c)
 abbrev Delivered : tie.Else1 → Type 0
 Delivered c =
     let a = c .before .before .before .before .before .args in
-    FontsDelivers (a .c) (a .wanted .now) (a .fonts .now) (a .asked) (fontsPlan (a .c) (a .wanted .now) (a .fonts .now) (a .asked))
+    FontsDelivers (eitherStart true) (a .c) (a .wanted .now) (a .fonts .now) (a .asked)
+    (eitherFontsPlan (a .c) (a .wanted .now) (a .fonts .now) (a .asked))
 
 delivered : (c : tie.Else1) → Delivered c
 delivered c = fonts-plan-delivers _ _ _ _ _ (unrefused c) (search needs) (search needs)
@@ -49,28 +52,40 @@ returns c = refused _ _ _ _ _ (c .before .of-fonts .ensures) (c .if1 .taken)
 numbers-requires : tie.Need-numbers-requires
 numbers-requires c κs = search needs
 
+cast-clear-wins : tie.Need-cast-clear-wins
+cast-clear-wins c = omega (arith, accepts (c .before .before) .0 .codes .asked-40)
+
+clear-wins-requires : tie.Need-clear-wins-requires
+clear-wins-requires c κs =
+    (fonts-given _ _ _ _ (accepts (c .before .before) .0), right-numbers _ (c .before .numbers .ensures .answer))
+
 cast-put-plan : tie.Need-cast-put-plan
-cast-put-plan c = omega (arith, accepts (c .before .before) .0 .codes .asked-40)
+cast-put-plan c = omega (arith, accepts (c .before .before .before .before) .0 .codes .asked-40)
 
 put-plan-requires : tie.Need-put-plan-requires
 put-plan-requires c κs =
-    let t = accepts (c .before .before .before) in
-    let u = t .0 .codes in
-    let numbers = subst⁻¹ (λ (rows : List (List ℕ)). Numbers rows) (c .before .before .numbers .ensures .answer) numbers-right in
-    (u .wanted-40, t .0 .fonts-40, u .cursor-40, u .asked-40, fonts-fit _ _ _ _ _ (t .0) (t .1), numbers)
+    let f = c .before .before .before .before .before in
+    let t = accepts f in (
+      fonts-given _ _ _ _ (t .0),
+      right-numbers _ (c .before .before .before .before .numbers .ensures .answer),
+      either-room _ _ _ _ (c .before .before .clear-wins .ensures) (omega (arith, delivered f .most, t .1)),
+    )
 
-cast-t13 : tie.Need-cast-t13
-cast-t13 c =
-    omega (arith, c .before .before .put-plan .ensures .0, delivered (c .before .before .before .before .before .before) .most)
+cast-t14 : tie.Need-cast-t14
+cast-t14 c =
+    let wins = c .before .before .before .before .before .clear-wins .ensures in
+    let put = either-put _ _ _ _ _ _ wins (c .before .before .put-plan .ensures) in
+    omega (arith, put .0, delivered (c .before .before .before .before .before .before .before .before) .most)
 
 same-length : tie.Need-same-length
 same-length c = search needs
 
 returns-2 : tie.Need-returns-2
 returns-2 c =
-    let f = c .before .before .before .before .before .before in
-    let p = c .before .before .put-plan .ensures in
-    taken-on _ _ _ _ _ _ (unrefused f) (delivered f) (p .0) (p .1)
+    let f = c .before .before .before .before .before .before .before .before in
+    let wins = c .before .before .before .before .before .clear-wins .ensures in
+    let put = either-put _ _ _ _ _ _ wins (c .before .before .put-plan .ensures) in
+    taken-on _ _ _ _ _ _ (unrefused f) (delivered f) (put .0) (put .1)
 
 pub plan-fonts-spec : {M : Type 1} → statement M
 plan-fonts-spec =
@@ -79,8 +94,10 @@ plan-fonts-spec =
     of-fonts-requires
     returns
     numbers-requires
+    cast-clear-wins
+    clear-wins-requires
     cast-put-plan
     put-plan-requires
-    cast-t13
+    cast-t14
     same-length
     returns-2)

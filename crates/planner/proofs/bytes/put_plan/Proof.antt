@@ -2,25 +2,29 @@ use mathlib.Core.Path.{sym, _∙_}
 use mathlib.Core.Logic.{⊎-elim}
 use Prim.Native.Nat.{_-_}
 use borrow.Author.Needs.{needs}
-use Rattle.planner.specs.Fonts.{wrongFor, fontsPlan}
 use Rattle.planner.proofs.Canvas.{wrongIn}
-use Rattle.planner.proofs.Putting.{Planning, planIn, plan-start, plan-skip, plan-write, plan-end}
+use Rattle.planner.proofs.Putting.{Planning, plan-start, plan-skip, plan-write, plan-end}
 use Rattle.planner.proofs.Putting.{way-room, code-room, end-room, end-long}
+use Rattle.planner.proofs.Started.{clearing-long, clear-room, room-by, put-by}
 use Rattle.planner.proofs.bytes.put_plan.Statement.{statement}
 use Rattle.planner.proofs.bytes.put_plan.Tie as tie
 
 abbrev Inv-loop : tie.InvT-loop
-Inv-loop table wanted fonts asked out₀ codes standing euro p₀ selected₀ k₀ i₀ out p selected k i =
-    Planning euro wanted fonts codes standing asked p₀ selected₀ out₀ out p selected k i
+Inv-loop table clear wanted fonts asked out₀ codes standing euro p₀ selected₀ k₀ i₀ out p selected k i =
+    Planning euro wanted fonts codes standing asked p₀ selected₀ k₀ out₀ out p selected k i
 
 abbrev μ-loop : tie.MeasureT-loop
-μ-loop table wanted fonts asked out₀ codes standing euro p₀ selected₀ k₀ i₀ out p selected k i = 40 - i
+μ-loop table clear wanted fonts asked out₀ codes standing euro p₀ selected₀ k₀ i₀ out p selected k i = 40 - i
 
 -- What is put is the plan ---------------------------------------------------------------------------------------------------------
 
 loop-holds : tie.Need-loop-holds Inv-loop μ-loop
-unfolding fontsPlan wrongFor planIn wrongIn
-loop-holds c = let r = c .before .before .before .before .before .pre in plan-start _ _ _ _ _ _ _ _ _ (r .2) (r .4)
+loop-holds c =
+    let f = c .before .before .before .before in
+    let a = f .before .before .before .before .before in
+    plan-start _ _ _ _ _ _ _ _ _ _ (a .pre .0 .cursor-40)
+    (room-by (a .args .clear) _ _ _ _ _ _ (f .before .codes-at .ensures) (f .fonts-at .ensures) _ _ _ (a .pre .2)
+    (c .before .before .put-clear .ensures))
 
 loop-again : tie.Need-loop-again Inv-loop μ-loop
 unfolding wrongIn
@@ -34,12 +38,27 @@ loop-again c =
     (c .if1 .came)
 
 returns : tie.Need-returns Inv-loop μ-loop
-unfolding fontsPlan wrongFor planIn wrongIn
 returns c =
     let v = c .before .before .before .before .before .loop .inv in
-    plan-end _ _ _ _ _ _ _ _ v _ _ (search needs) (c .before .before .put-way2 .ensures)
+    let f = c .before .before .before .before .before .before .before .before .before .before in
+    let a = f .before .before .before .before .before in
+    let d = c .before .before .before .before .before .before .before .before .put-clear .ensures in
+    put-by (a .args .clear) _ _ _ _ _ _ (f .before .codes-at .ensures) (f .fonts-at .ensures) _ _ _ _ _ (a .pre .2) d
+    (plan-end _ _ _ _ _ _ _ _ v _ _ (search needs) (c .before .before .put-way2 .ensures))
 
 -- What the calls ask for ----------------------------------------------------------------------------------------------------------
+
+codes-at-requires : tie.Need-codes-at-requires Inv-loop μ-loop
+codes-at-requires c κs = search needs
+
+fonts-at-requires : tie.Need-fonts-at-requires Inv-loop μ-loop
+fonts-at-requires c κs = search needs
+
+put-clear-requires : tie.Need-put-clear-requires Inv-loop μ-loop
+put-clear-requires c κs =
+    let f = c .before in
+    let a = f .before .before .before .before .before in
+    clear-room (a .args .clear) _ _ _ _ _ _ (f .before .codes-at .ensures) (f .fonts-at .ensures) _ (a .pre .2)
 
 cast-j : tie.Need-cast-j Inv-loop μ-loop
 cast-j c = search needs
@@ -62,10 +81,10 @@ differs-requires c κs = search needs
 put-way-requires : tie.Need-put-way-requires Inv-loop μ-loop
 unfolding wrongIn
 put-way-requires c κs =
-    let v = c .before .before .before .before .before .before .loop .inv in
+    let f = c .before .before .before .before .before .before in
     let w = sym (c .before .before .differs .ensures) ∙ c .before .if1 .taken in
-    let given = c .before .before .before .before .before .before .before .before .before .before .before .before .pre in
-    (v .inside, search needs, way-room _ _ _ _ _ _ _ _ v (search needs) w, given .5)
+    let given = f .before .before .before .before .before .before .before .before .before .before .pre in
+    (f .loop .inv .counting .inside, search needs, way-room _ _ _ _ _ _ _ _ (f .loop .inv) (search needs) w, given .1)
 
 put-code-requires : tie.Need-put-code-requires Inv-loop μ-loop
 unfolding wrongIn
@@ -87,13 +106,16 @@ loop-less c = search needs
 put-way-requires-2 : tie.Need-put-way-requires-2 Inv-loop μ-loop
 put-way-requires-2 c κs =
     let v = c .before .before .loop .inv in
-    let given = c .before .before .before .before .before .before .before .before .pre in
-    (v .inside, search needs, end-room _ _ _ _ _ _ _ _ v (search needs), given .5)
+    let given = c .before .before .before .before .before .before .before .before .before .before .before .before .pre in
+    (v .counting .inside, search needs, end-room _ _ _ _ _ _ _ _ v (search needs), given .1)
 
 same-length : tie.Need-same-length Inv-loop μ-loop
 same-length c =
     let v = c .before .before .before .before .before .loop .inv in
-    end-long _ _ _ _ _ _ _ _ v _ (c .before .before .put-way2 .ensures .1)
+    let f = c .before .before .before .before .before .before .before .before in
+    let a = f .before .before .before .before .before .before .before .args in
+    clearing-long (a .clear) (a .out .now) _ _ (f .put-clear .ensures .1)
+    (end-long _ _ _ _ _ _ _ _ v _ (c .before .before .put-way2 .ensures .1))
 
 pub put-plan-spec : {M : Type 1} → statement M
 put-plan-spec =
@@ -101,6 +123,9 @@ put-plan-spec =
     (tie.spec
     Inv-loop
     μ-loop
+    codes-at-requires
+    fonts-at-requires
+    put-clear-requires
     loop-holds
     cast-j
     shared-slice-read-code
