@@ -3,7 +3,8 @@
    3 every fifth cell. In two fonts, every cell wrong: 4 the lower line Katakana, 5 the longest plan (fonts in turn,
    Katakana selected, Euro on). With 16 user characters: 6 sign_view of a cell with the youngest, of which
    7 sign_dot, 8 sign_underline, 9 sign_lit. Runs from power-up font 0: 10 of no byte, 11 of one character, 12 of 26
-   bytes, as many as a plan has in the mean: 0Ch and 25 characters. Prints what it called and the last answer. */
+   bytes: 0Ch and 25 characters. 13 a plan in one font from a full glass to one character. Prints what it called and
+   the last answer. */
 #include <stdio.h>
 #include <stdlib.h>
 #include <string.h>
@@ -14,7 +15,7 @@ static uint8_t block[SIGN_BLOCK], tally[SIGN_TALLY], codes[SIGN_CELLS], fonts[SI
 static const char *const called[] = {
     "sign_plan, nothing wrong", "sign_plan, every cell wrong", "sign_plan, every second cell", "sign_plan, every fifth cell",
     "sign_plan_fonts, lower line Katakana", "sign_plan_fonts, the longest", "sign_view", "sign_dot", "sign_underline", "sign_lit",
-    "sign_run, no byte", "sign_run, one character", "sign_run, 26 bytes",
+    "sign_run, no byte", "sign_run, one character", "sign_run, 26 bytes", "sign_plan, from a full glass to one character",
 };
 
 static uint32_t run(const uint8_t *bytes, size_t n) { return sign_run(block, sizeof block, tally, sizeof tally, bytes, n); }
@@ -31,23 +32,25 @@ static uint32_t question(int kind) {
 static uint32_t call(int kind) {
     static const uint8_t bytes[] = "\x0CGANGWAY 2   EMBARK RAMP B";
     static const size_t counts[] = {0, 1, 26};
-    if (kind >= 10) return run(bytes + (kind == 11), counts[kind - 10]);
-    if (kind < 4) return sign_plan(block, sizeof block, codes, sizeof codes, 0, out, sizeof out);
+    if (kind >= 10 && kind < 13) return run(bytes + (kind == 11), counts[kind - 10]);
+    if (kind < 4 || kind == 13) return sign_plan(block, sizeof block, codes, sizeof codes, 0, out, sizeof out);
     if (kind >= 6) return question(kind);
     return sign_plan_fonts(block, sizeof block, codes, sizeof codes, fonts, sizeof fonts, kind == 5 ? 39 : 0, out, sizeof out);
 }
 
 int main(int argc, char **argv) {
-    static const int gap[] = {SIGN_CELLS, 1, 2, 5, 1, 1, 1, 1, 1, 1, 1, 1, 1};
+    static const int gap[] = {SIGN_CELLS, 1, 2, 5, 1, 1, 1, 1, 1, 1, 1, 1, 1, SIGN_CELLS};
     static const uint8_t longest[] = {0x19, 0x1A, 0x1B, 0x48, 0x05};
     if (argc != 3) return 2;
-    int kind = atoi(argv[1]) % 13, times = atoi(argv[2]);
+    int kind = atoi(argv[1]) % 14, times = atoi(argv[2]);
     if (sign_power_up(0, block, sizeof block) != SIGN_ACCEPTED) return 1;
     if (kind == 5 && run(longest, sizeof longest) != SIGN_ACCEPTED) return 1;
     for (uint8_t code = 0x80; kind >= 6 && kind < 10 && code < 0x90; code++) {
         const uint8_t define[] = {0x0C, 0x1B, 0x43, code, 1, 2, 3, 4, 5, code};
         if (run(define, sizeof define) != SIGN_ACCEPTED) return 1;
     }
+    memset(codes, 'B', sizeof codes);
+    if (kind == 13 && run(codes, sizeof codes) != SIGN_ACCEPTED) return 1;
     memset(codes, ' ', sizeof codes);
     for (int i = kind == 0 ? SIGN_CELLS : 0; i < SIGN_CELLS; i += gap[kind]) codes[i] = 'A';
     for (int i = 0; i < SIGN_CELLS; i++) fonts[i] = kind == 4 ? i >= SIGN_CELLS / 2 : i % 2;

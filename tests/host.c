@@ -183,6 +183,32 @@ static void two_fonts(void) {
     check("fonts: one font", n == 44 && planned(plan_fonts(39), one_font, n));
 }
 
+/* From a full glass to 42h at 0, else blank, cursor 0. */
+static void from_a_clear(void) {
+    uint8_t full[48] = {0x1B, 0x43, 0x0E}; /* a user character on 0Eh, and 40 characters */
+    memset(full + 8, 0x41, 40);
+    memset(want, 0x20, sizeof want);
+    memset(fonts, 0, sizeof fonts);
+    want[0] = 0x42;
+    const uint8_t cleared[] = {0x0E, 0x42, 0x08};
+    after(full + 8, 40);
+    check("clear: one font", planned(plan(0), cleared, sizeof cleared));
+    check("clear: two fonts", planned(plan_fonts(0), cleared, sizeof cleared));
+    check("clear: run", run(cleared, sizeof cleared) == 0 && memcmp(block + SIGN_CODES_AT, want, 40) == 0 && cursor() == 0);
+
+    uint8_t written_over[40] = {0x42};
+    memset(written_over + 1, 0x20, 39);
+    after(full, sizeof full);
+    check("clear: not with a user character on 0Eh", planned(plan(0), written_over, 40));
+    want[0] = written_over[0] = 0x0E;
+    check("clear: 0Eh is wanted", planned(plan(0), written_over, 40) && planned(plan_fonts(0), written_over, 40));
+
+    const uint8_t tie[] = {0x20, 0x1B, 0x48, 0x05};
+    AFTER(0x41, 0x0C);
+    want[0] = 0x20;
+    check("clear: not in a tie", planned(plan(5), tie, sizeof tie));
+}
+
 /* The refusal of sign_plan_fonts with one byte too little room. */
 static uint32_t refused(size_t block_len, size_t codes_len, size_t fonts_len, uint32_t asked) {
     return sign_plan_fonts(block, block_len, want, codes_len, fonts, fonts_len, asked, out, SIGN_FONTS_ROOM - 1) - SIGN_REFUSED;
@@ -415,6 +441,7 @@ int main(int argc, char **argv) {
     memset(want, 0x20, sizeof want);
     bench_sheet();
     two_fonts();
+    from_a_clear();
     fonts_refusals();
     memset(want, 0x20, sizeof want);
     refusals();

@@ -174,7 +174,7 @@ costs)
     c_program costs tests/costs.c
     choose_counter "$out/costs" 0 1
     # between 10 and 90 calls, so that nothing of the program's start and end is in it
-    for kind in 0 1 2 3 4 5 6 7 8 9 10 11 12; do
+    for kind in 0 1 2 3 4 5 6 7 8 9 10 11 12 13; do
         ninety=$(count "$out/costs" "$kind" 90)
         ten=$(count "$out/costs" "$kind" 10)
         echo "costs: kind $kind, $($RUN "$out/costs" "$kind" 1): $(((ninety - ten) / 80)) instructions"
