@@ -110,6 +110,12 @@ int main(void) {
     if (failed(put("Welcome aboard", "Gate 5 \x01\x01\x01", 0))) return 1;
     print_sign();
 
+    /* from a full sign to a short notice: the plan clears it first (0E) */
+    if (failed(put("Southport 10:45  R 1", "Northgate 11:10  R 2", 0))) return 1;
+    print_sign();
+    if (failed(put("Boat drill", "", 0))) return 1;
+    print_sign();
+
     printf("bytes %lu, busy %lu us, at the worst %lu us\n",
            (unsigned long)sign_tally_number(tally, SIGN_NUMBER_BYTES),
            (unsigned long)sign_tally_number(tally, SIGN_NUMBER_BUSY), worst(tally));

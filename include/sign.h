@@ -126,9 +126,10 @@ uint32_t sign_run(uint8_t *block, size_t block_len,
 
 /* Writes to out the bytes that bring the 40 wanted codes onto the sign, each in the selected
    font, and the cursor to the asked place: at most 44, and no string of cursor moves and writes
-   in reading order does it with fewer. The first byte may be 0Eh, which clears the sign, where that
-   is shorter and no user character stands on 0Eh; no such string with 0Eh ahead of it has fewer
-   either. The block stays as it is: give the bytes to sign_run, and send them where it answers 0.
+   in reading order does it with fewer, not even with a clear ahead of it. A clear is 0Eh while no
+   user character stands there: it is the first byte where the bytes are fewer so, and then the sign
+   is blank until the last one is through (docs/HOST.md, A plan that clears). The block stays as it
+   is: give the bytes to sign_run, and send them where it answers 0.
    Answers how many bytes were written (0: all is there already), and nothing else of out changes;
    or 256 plus 1, 2, 3, 6, 7, 8, 9 or 10, and then out did not change. */
 uint32_t sign_plan(const uint8_t *block, size_t block_len,
@@ -138,8 +139,9 @@ uint32_t sign_plan(const uint8_t *block, size_t block_len,
 /* The same with a wanted font for each cell, 0 International or 1 Katakana. The bytes may also
    switch the selected font: 19h to Katakana; 18h to International, or 18h 1Ah while Euro is on,
    so that it stays on. At most 104, and no string of cursor moves, such switches and writes in
-   reading order, with 0Eh ahead of it or without, does it with fewer. Either font may be selected
-   afterwards; nothing but it, the cells and the cursor changes.
+   reading order, with a clear ahead of it or without, does it with fewer. A clear leaves blanks in
+   the font that is selected before the first byte. Either font may be selected afterwards; nothing
+   but it, the cells and the cursor changes.
    Answers how many bytes were written (0: all is there already), and nothing else of out changes;
    or 256 plus 1, 2, 3, 6, 7, 8, 9 or 10, and then out did not change. */
 uint32_t sign_plan_fonts(const uint8_t *block, size_t block_len,

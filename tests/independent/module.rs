@@ -18,12 +18,13 @@ pub const FONTS_ROOM: usize = 104;
 
 /// The planner's one-byte moves, and ESC: a user character on one of these six stops all planning.
 pub const SINGLE_MOVES: [u8; 5] = [0x08, 0x09, 0x0A, 0x0C, 0x0D];
-/// The byte that clears, with which a plan may start.
-pub const CLEAR: u8 = 0x0E;
 pub const PLANNERS_CODES: [u8; 6] = [0x08, 0x09, 0x0A, 0x0C, 0x0D, 0x1B];
 
 /// The same for the planner of two fonts, which also sends 18h, 19h and 1Ah.
 pub const FONTS_CODES: [u8; 9] = [0x08, 0x09, 0x0A, 0x0C, 0x0D, 0x1B, 0x18, 0x19, 0x1A];
+
+/// The byte that clears, with which a plan may start.
+pub const CLEAR: u8 = 0x0E;
 
 // ---------------------------------------------------------------------------------- the condition
 

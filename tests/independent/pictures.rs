@@ -145,7 +145,7 @@ impl Pictures {
             other.users[i].code = (0x80..=0xFF).find(|x| !stands(x)).unwrap_or(CLEAR);
         }
         let with = cleared(&other).map_or(usize::MAX, |blank| 1 + wanted.plan_without(&blank, &self.moves).len());
-        self.saved += (without - length) as u64;
+        self.saved += without.saturating_sub(length) as u64;
         match place {
             Some(_) => self.barred += (with < without) as u64,
             None => {

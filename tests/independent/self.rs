@@ -415,7 +415,6 @@ fn longest_plan(moves: &Moves, switches: bool) -> usize {
     ends.max().unwrap()
 }
 
-/// The refusals of the planner of two fonts: what is lent, from power-up after these bytes, and the answer.
 /// Plans that may start from a clear, worked out by hand: bytes before, the cells that are not 20h in the
 /// selected font, asked cursor, the plan. Where no cell has another font both planners give it.
 fn from_a_clear(r: &mut Report, moves: &Moves) {
@@ -463,6 +462,7 @@ fn from_a_clear(r: &mut Report, moves: &Moves) {
     );
 }
 
+/// The refusals of the planner of two fonts: what is lent, from power-up after these bytes, and the answer.
 fn two_fonts_refused(r: &mut Report, moves: &Moves) {
     type Example<'a> = (&'a [u8], u8, usize, u32, usize, u32);
     // bytes before, a wanted font, how many fonts, asked cursor, room, answer

@@ -24,7 +24,7 @@ use Rattle.planner.proofs.Picture.{wrongsIn, stays, switches-both}
 use Rattle.planner.proofs.Serving.{Plannable, made, Serves, serves}
 use Rattle.planner.proofs.Clear.{either-least, cleared-plannable, either-serves}
 
--- and fonts, with steps to switch between them
+-- fonts that can be wanted of it, with steps to switch between them
 pub record Switchable (c : Condition) (fonts : List ℕ) : Type 0 where
   pub wanted-fonts-40 : length fonts ≡ 40
   pub wanted-fonts-1 : (i : ℕ) → getD fonts i 0 ≤ 1
