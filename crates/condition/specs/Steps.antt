@@ -33,7 +33,7 @@ lowAfter c low b = cond (idle (c .pending) && isChar c b) (c .cursor + 1) low
 
 -- 18h was sent while the mark was on: 1Ah comes next
 unfoldable pub owed : Bool → Bool → Condition → Bool
-owed switching mark c = switching && mark && not (c .euro)
+owed switching mark c = switching && (mark && not (c .euro))
 
 -- 19h or 18h, where no user character sits there
 unfoldable pub switchByte : Condition → ℕ → Bool
@@ -43,7 +43,7 @@ switchByte c b = idle (c .pending) && not (isChar c b) && (eqb b 0x18 || eqb b 0
 unfoldable pub nextByte : Bool → Bool → Condition → ℕ → ℕ → Bool
 nextByte switching mark c low b =
     cond (owed switching mark c) (not (isChar c b) && eqb b 0x1A)
-    (stepByte (c .pending) c low b || (switching && switchByte c b))
+    (switching && switchByte c b || stepByte (c .pending) c low b)
 
 -- a string of these steps only, whole, each written cell at a higher position than the one written before
 unfoldable pub inOrder : Bool → Bool → Condition → ℕ → List ℕ → Bool

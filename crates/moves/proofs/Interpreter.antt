@@ -196,7 +196,7 @@ leads-back c r [] escape a h o = clash o refl
 leads-back c r [] place a h o = clash o refl
 leads-back c r (x ∷ xs) none a h o =
     let d = partly c none a in
-    let may = sym (or-false (stepByte Nothing d 40 x)) ∙ both (nextByte false false d 40 x) _ o .0 in
+    let may = both (nextByte false false d 40 x) _ o .0 in
     let rest = both (nextByte false false d 40 x) (inOrder false false (stepOf d x) (lowAfter d 40 x) xs) o .1 in
     by-cases (isChar c x)
     (λ e. let l : 40 ≤ a = leb-true 40 a (rw e at may) in absurd (omega arith))
@@ -212,14 +212,14 @@ leads-back c r (x ∷ xs) none a h o =
     let n = moves-to d (partly-ready c a r h) x i u in
     rw (z, i) (carried none (move x a) xs n (leads-back c r xs none (move x a) (move-below x a h)) on)))
 leads-back c r (x ∷ xs) escape a h o =
-    let e = sym (or-false (eqb x 0x48)) ∙ both (eqb x 0x48 || false) _ o .0 in
+    let e = both (eqb x 0x48) _ o .0 in
     let n = ap (stepOf (partly c escape a)) (eqb-true x 0x48 e) in
-    rw e (carried place a xs n (leads-back c r xs place a h) (both (eqb x 0x48 || false) _ o .1))
+    rw e (carried place a xs n (leads-back c r xs place a h) (both (eqb x 0x48) _ o .1))
 leads-back c r (x ∷ xs) place a h o =
-    let e = sym (or-false (leb x 0x27)) ∙ both (leb x 0x27 || false) _ o .0 in
+    let e = both (leb x 0x27) _ o .0 in
     let z : x < 40 = (let k = leb-true x 0x27 e in omega arith) in
     let n = placed (withCursor c a) x (r .still) z in
-    rw e (carried none x xs n (leads-back c r xs none x z) (both (leb x 0x27 || false) _ o .1))
+    rw e (carried none x xs n (leads-back c r xs none x z) (both (leb x 0x27) _ o .1))
 
 pub writeless : (c : Condition) (bs : List ℕ) → Ready c → inOrder false false c 40 bs ≡ true
     → leadsTo none (c .cursor) (runOf c bs .cursor) bs ≡ true

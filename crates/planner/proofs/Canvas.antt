@@ -2,7 +2,7 @@
 -- come. Mode 1. `chars` says which bytes are written as characters, `mark` whether the Euro mark was on at the start, and
 -- `switching` whether the steps are those of document 01 alone or have 19h and 18h besides.
 use mathlib.Core.Path.{_≡_}
-use mathlib.Core.Bool.{Bool, true, false, cond, not, _&&_, _||_, or-false}
+use mathlib.Core.Bool.{Bool, true, false, cond, not, _&&_, _||_, and-false, or-false}
 use mathlib.Core.List.{List, [], _∷_}
 use Prim.Native.Nat.{ℕ, suc, _≤_}
 use lib.Dec.{eqb, leb}
@@ -57,14 +57,12 @@ module _ (switching mark : Bool) (chars : ℕ → Bool) where
   run g (b ∷ bs) = run (step g b) bs
 
   -- the byte b may come next: no cell below lo is written any more
-  unfoldable pub allowed : Part → ℕ → ℕ → ℕ → Bool
-  allowed none p lo b =
-      cond (chars b) (leb lo p)
-      (cond (eqb b 0x1B) true
-      (cond (any (eqb b) moves) true (switching && (eqb b 0x18 || eqb b 0x19))))
-  allowed escape p lo b = eqb b 0x48
-  allowed place p lo b = leb b 0x27
-  allowed back p lo b = not (chars b) && eqb b 0x1A
+  unfoldable pub mayCome : Part → ℕ → ℕ → ℕ → Bool
+  mayCome none p lo b =
+      switching && (not (chars b) && (eqb b 0x18 || eqb b 0x19)) || cond (chars b) (leb lo p) (any (eqb b) moves || eqb b 0x1B)
+  mayCome escape p lo b = eqb b 0x48
+  mayCome place p lo b = leb b 0x27
+  mayCome back p lo b = not (chars b) && eqb b 0x1A
 
   -- the lowest place that may be written after it
   unfoldable pub lowAt : Part → ℕ → ℕ → ℕ → ℕ
@@ -76,11 +74,11 @@ module _ (switching mark : Bool) (chars : ℕ → Bool) where
   -- a reading-order string
   abbrev pub ordered : Canvas → ℕ → List ℕ → Bool
   ordered g lo [] = whole (g .part)
-  ordered g lo (b ∷ bs) = allowed (g .part) (g .cursor) lo b && ordered (step g b) (lowAt (g .part) (g .cursor) lo b) bs
+  ordered g lo (b ∷ bs) = mayCome (g .part) (g .cursor) lo b && ordered (step g b) (lowAt (g .part) (g .cursor) lo b) bs
 
   -- what the byte b, which may come next, does where nothing is half received, by its kind: a character write, 1Bh, a one-byte
   -- move, 19h, 18h with 1Ah to follow, 18h alone
-  pub by-kind : (P : Canvas → ℕ → Type 0) (p lo f : ℕ) (cs fs : List ℕ) (b : ℕ) → allowed none p lo b ≡ true
+  pub by-kind : (P : Canvas → ℕ → Type 0) (p lo f : ℕ) (cs fs : List ℕ) (b : ℕ) → mayCome none p lo b ≡ true
       → (chars b ≡ true → lo ≤ p → P (canvas none (next p) f (set cs p b) (set fs p f)) (suc p))
       → (chars b ≡ false → b ≡ 0x1B → P (canvas escape p f cs fs) lo)
       → (chars b ≡ false → any (eqb b) moves ≡ true → P (canvas none (move b p) f cs fs) lo)
@@ -88,15 +86,15 @@ module _ (switching mark : Bool) (chars : ℕ → Bool) where
       → (chars b ≡ false → switching ≡ true → b ≡ 0x18 → mark ≡ true → P (canvas back p f cs fs) lo)
       → (chars b ≡ false → switching ≡ true → b ≡ 0x18 → mark ≡ false → P (canvas none p 0 cs fs) lo)
       → P (stepAt none p f cs fs b) (lowAt none p lo b)
-  unfolding stepAt allowed lowAt
+  unfolding stepAt mayCome lowAt
   by-kind P p lo f cs fs b a write esc move on off1 off0 =
-      by-cases (chars b) (λ e. rw e (write e (leb-true lo p (rw e at a))))
+      by-cases (chars b) (λ e. rw e (write e (leb-true lo p (rw (e, and-false) at a))))
       (λ e. rw e
       (by-cases (eqb b 0x1B) (λ z. rw z (esc e (eqb-true b 0x1B z)))
       (λ z. rw z
       (by-cases (any (eqb b) moves) (λ m. rw m (move e m))
       (λ m.
-      let o = rw (e, z, m) at a in
+      let o = rw (e, z, m, or-false) at a in
       let s : switching ≡ true = both switching _ o .0 in
       rw m
       (by-cases (eqb b 0x19) (λ y. rw y (on e s (eqb-true b 0x19 y)))

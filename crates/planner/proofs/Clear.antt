@@ -1,6 +1,6 @@
 -- Start from a clear (document 02, W4): what is known of plans without it serves for the shorter of both.
 use mathlib.Core.Path.{_≡_, refl, sym, ap, _∙_, subst}
-use mathlib.Core.Bool.{Bool, true, false, not, _&&_}
+use mathlib.Core.Bool.{Bool, true, false, not, _&&_, or-true}
 use mathlib.Core.List.{List, [], _∷_}
 use Prim.Native.Nat.{ℕ, _≤_}
 use native.Mathlib.Omega.{arith}
@@ -15,10 +15,10 @@ use Rattle.condition.specs.Bytes.{isChar, clearOf, controlOf, stepAt, stepOf, r
 use Rattle.condition.specs.Steps.{readingOrder, clearByte, eitherStart}
 use Rattle.condition.proofs.Characters.{no-user}
 use Rattle.moves.proofs.Interpreter.{Ready}
-use Rattle.planner.specs.Plan.{atStart, Pictured}
+use Rattle.planner.specs.Plan.{Pictured}
 use Rattle.planner.specs.Fonts.{picturedIn}
 use Rattle.planner.specs.Clear.{planBy, mayClear, clearWins, eitherBy}
-use Rattle.planner.proofs.Serving.{Plannable, Serves}
+use Rattle.planner.proofs.Serving.{Plannable, Switchable, Serves}
 
 -- The shorter of two plans --------------------------------------------------------------------------------------------------------
 
@@ -47,17 +47,10 @@ module _ (from : Condition → List ℕ) (c : Condition) where
       by-cases (clearWins from c) (λ e. rw (either-yes e) (omega arith))
       (λ e. rw (either-no e) (ltb-false (length (planBy from true c)) (length (from c)) (rw u at e)))
 
-  -- the plan with the clear that wins, or without it
-  pub either-room : (clear : Bool) (n : ℕ) → clear ≡ clearWins from c → length (eitherBy from c) ≤ n
-      → length (planBy from clear c) ≤ n
+  -- the plan that is put, where `clear` is whether the clear wins
+  pub either-is : (clear : Bool) → clear ≡ clearWins from c → planBy from clear c ≡ eitherBy from c
   unfolding eitherBy
-  either-room clear n e h = rw e h
-
-  pub either-put : (clear : Bool) (out out′ : List ℕ) (n : ℕ) → clear ≡ clearWins from c
-      → (n ≡ length (planBy from clear c)) × (out′ ≡ atStart (planBy from clear c) out)
-      → (n ≡ length (eitherBy from c)) × (out′ ≡ atStart (eitherBy from c) out)
-  unfolding eitherBy
-  either-put clear out out′ n e h = rw (← e) h
+  either-is clear e = rw e
 
 -- The clear -----------------------------------------------------------------------------------------------------------------------
 
@@ -96,6 +89,18 @@ cleared-plannable c wanted asked r =
       shown = r .shown;
     }
 
+pub cleared-switchable : (c : Condition) (fonts : List ℕ) → Switchable c fonts → Switchable (clearOf c) fonts
+unfolding clearOf isChar
+cleared-switchable c fonts t =
+    record {
+      wanted-fonts-40 = t .wanted-fonts-40;
+      wanted-fonts-1 = t .wanted-fonts-1;
+      selected-1 = t .selected-1;
+      free18 = t .free18;
+      free19 = t .free19;
+      free1A = t .free1A;
+    }
+
 -- Both kinds of start -------------------------------------------------------------------------------------------------------------
 
 -- a string without a clear is one of them, and so is 0Eh with a string from the cleared condition
@@ -110,8 +115,7 @@ module _ (switching : Bool) (Ok : ℕ → Type 0) (c : Condition) (r : Ready c) 
   cleared-start : isUser (c .users) 0x0E ≡ false → eitherStart switching c (planBy from true c) ≡ true
   unfolding eitherStart
   cleared-start u =
-      by-cases (readingOrder switching c (planBy from true c)) (λ e. rw e)
-      (λ e. rw (e, clear-byte c r u, clears c r u) (cleared .ordered))
+      rw (clear-byte c r u, clears c r u, cleared .ordered, or-true)
 
   cleared-gives : isUser (c .users) 0x0E ≡ false → runOf c (planBy from true c) ≡ picturedIn c wanted gs asked (cleared .selected)
   unfolding runOf

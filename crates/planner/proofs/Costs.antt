@@ -152,9 +152,9 @@ switch-on e f h =
     (λ y. rw (z, y, ne-eqb 1 h (λ i. eqb-false h 1 y (sym i))) (omega arith)))
 
 -- the longest is 18h with what it takes
-pub switch-back : (e : Bool) (f h : ℕ) → length (switch e f h) ≤ backLength e + length (switch e 0 h)
+switch-short : (e : Bool) (f h : ℕ) → length (switch e f h) ≤ backLength e
 unfolding switch
-switch-back e f h = omega (arith, most e (eqb f h) (eqb h 1))
+switch-short e f h = most e (eqb f h) (eqb h 1)
   where
     most : (e s t : Bool) → length {A = ℕ} (cond s [] (cond t (0x19 ∷ []) (cond e (0x18 ∷ 0x1A ∷ []) (0x18 ∷ [])))) ≤ backLength e
     most true true t = omega arith
@@ -163,6 +163,9 @@ switch-back e f h = omega (arith, most e (eqb f h) (eqb h 1))
     most false true t = omega arith
     most false false true = omega arith
     most false false false = omega arith
+
+pub switch-back : (e : Bool) (f h : ℕ) → length (switch e f h) ≤ backLength e + length (switch e 0 h)
+switch-back e f h = omega (arith, switch-short e f h)
 
 pub switch-two : (e : Bool) (f h : ℕ) → length (switch e f h) ≤ 2 + length (switch e 0 h)
 switch-two e f h = omega (arith, switch-back e f h, back-most e)
@@ -208,6 +211,13 @@ module _ (euro : Bool) (font : ℕ → ℕ) where
   cost-most h q w p f l =
       omega (arith, parts q p f (flagged w 40 0), move-most q w p, switches-most h f (flagged w 40 0) l, flagged-length w 40 0)
 
+  -- whatever the fonts, a cell takes six bytes at most
+  pub cost-far : (q p f : ℕ) (xs : List ℕ) → cost q (p, f) xs ≤ 6 * length xs + 3
+  unfolding total
+  cost-far q p f [] = dist-most p q
+  cost-far q p f (x ∷ xs) =
+      omega (arith, dist-most p x, switch-short euro f (font x), back-most euro, cost-far q (next x) (font x) xs)
+
   pub length-plan : (ws : List ℕ) (q p f : ℕ) (xs : List ℕ) → length (fontsPlanOf euro ws font q p f xs) ≡ cost q (p, f) xs
   unfolding fontsPlanOf total
   length-plan ws q p f [] = length-path p q
@@ -217,10 +227,7 @@ module _ (euro : Bool) (font : ℕ → ℕ) where
       (omega (arith, length-append (switch euro f (font x)) on, length-plan ws q (next x) (font x) xs))
 
 -- one font alone: no switch
-pub cost-plain : (euro : Bool) (f q : ℕ) (w : ℕ → Bool) (p : ℕ) → cost euro (λ x. f) q (p, f) (flagged w 40 0) ≤ 44
-unfolding switches
-cost-plain euro f q w p = omega (arith, parts euro (λ x. f) q p f (flagged w 40 0), move-most q w p, none (flagged w 40 0))
-  where
-    none : (xs : List ℕ) → switches euro (λ x. f) f xs ≡ 0
-    none [] = refl
-    none (x ∷ xs) = omega (arith, ap length (switch-none euro f), none xs)
+pub cost-one : (euro : Bool) (f q p : ℕ) (xs : List ℕ) → cost euro (λ x. f) q (p, f) xs ≡ moveCost q p xs
+unfolding total
+cost-one euro f q p [] = refl
+cost-one euro f q p (x ∷ xs) = omega (arith, ap length (switch-none euro f), cost-one euro f q (next x) xs)

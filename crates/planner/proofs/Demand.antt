@@ -10,66 +10,56 @@ use Rattle.laws.proofs.Tests.{by-cases}
 use Rattle.condition.specs.declared.Condition.{Condition}
 use Rattle.condition.specs.Bytes.{isChar, clearOf}
 use Rattle.condition.specs.Steps.{readingOrder, eitherStart, wrong}
-use Rattle.condition.proofs.Ranges.{up-to-at}
 use Rattle.moves.specs.Moves.{next}
 use Rattle.moves.specs.Ways.{path}
 use Rattle.planner.specs.Plan.{flagged, planOf, plan, Delivers}
 use Rattle.planner.specs.Fonts.{wrongFor, fontsPlanOf, fontsPlan, picturedIn, FontsDelivers}
 use Rattle.planner.specs.Clear.{clearWins, eitherBy, eitherPlan, eitherFontsPlan}
-use Rattle.planner.specs.Given.{Given}
 use Rattle.planner.proofs.Canvas.{wrongIn}
 use Rattle.planner.proofs.Costs.{flagged-yes, flagged-no, flagged-same, switch-none}
-use Rattle.planner.proofs.Costs.{cost, cost-plain, cost-most, length-plan}
-use Rattle.planner.proofs.Picture.{wrongsIn, stays, switches-both}
-use Rattle.planner.proofs.Serving.{Plannable, made, Serves, serves}
-use Rattle.planner.proofs.Clear.{either-least, cleared-plannable, either-serves}
-
--- fonts that can be wanted of it, with steps to switch between them
-pub record Switchable (c : Condition) (fonts : List ℕ) : Type 0 where
-  pub wanted-fonts-40 : length fonts ≡ 40
-  pub wanted-fonts-1 : (i : ℕ) → getD fonts i 0 ≤ 1
-  pub selected-1 : c .font ≤ 1
-  pub free18 : isChar c 0x18 ≡ false
-  pub free19 : isChar c 0x19 ≡ false
-  pub free1A : isChar c 0x1A ≡ false
-
-made-length : (font : ℕ → ℕ) (c : Condition) (wanted : List ℕ) (asked : ℕ)
-    → length (made font c wanted asked)
-    ≡ cost (c .euro) font asked (c .cursor, c .font) (wrongsIn font wanted (c .codes) (c .fonts))
-made-length font c wanted asked =
-    length-plan (c .euro) font wanted asked (c .cursor) (c .font) (wrongsIn font wanted (c .codes) (c .fonts))
+use Rattle.planner.proofs.Costs.{moveCost, move-most, cost-one, cost-most}
+use Rattle.planner.proofs.Picture.{stays, switches-both}
+use Rattle.planner.proofs.Serving.{Plannable, Switchable, made, made-length, Serves, serves}
+use Rattle.planner.proofs.Clear.{either-least, cleared-plannable, cleared-switchable, either-serves}
 
 -- One font ------------------------------------------------------------------------------------------------------------------------
 
 -- where the wanted font of every flagged place is the selected one, the plan has no switch
 module _ (e : Bool) (ws : List ℕ) (font : ℕ → ℕ) (w : ℕ → Bool) (q f : ℕ) where
-  plain : (n i p : ℕ) → ((j : ℕ) → j < i + n → font j ≡ f)
+  no-switches : (n i p : ℕ) → ((j : ℕ) → j < i + n → font j ≡ f)
       → planOf ws q p (flagged w n i) ≡ fontsPlanOf e ws font q p f (flagged w n i)
   unfolding flagged planOf fontsPlanOf
-  plain zero i p h = refl
-  plain (suc n) i p h =
+  no-switches zero i p h = refl
+  no-switches (suc n) i p h =
       let rest : (r : ℕ) → planOf ws q r (flagged w n (suc i)) ≡ fontsPlanOf e ws font q r f (flagged w n (suc i)) =
-      λ r. plain n (suc i) r (λ j l. h j (omega arith)) in
+      λ r. no-switches n (suc i) r (λ j l. h j (omega arith)) in
       by-cases (w i)
       (λ y. rw (flagged-yes w n i y, h i (omega arith), switch-none e f)
       (ap (λ (t : List ℕ). path p i ++ getD ws i 0 ∷ t) (rest (next i))))
       (λ y. rw (flagged-no w n i y) (rest p))
 
-pub plan-made : (c : Condition) (wanted : List ℕ) (asked : ℕ) → plan c wanted asked ≡ made (λ i. c .font) c wanted asked
+plan-made : (c : Condition) (wanted : List ℕ) (asked : ℕ) → plan c wanted asked ≡ made (λ i. c .font) c wanted asked
 unfolding plan wrong wrongIn
-plan-made c wanted asked = plain (c .euro) wanted (λ i. c .font) (wrong c wanted) asked (c .font) 40 0 (c .cursor) (λ j l. refl)
+plan-made c wanted asked =
+    no-switches (c .euro) wanted (λ i. c .font) (wrong c wanted) asked (c .font) 40 0 (c .cursor) (λ j l. refl)
 
-pub plan-most : (c : Condition) (wanted : List ℕ) (asked : ℕ) → length (plan c wanted asked) ≤ 44
-plan-most c wanted asked =
-    rw (plan-made c wanted asked, made-length (λ i. c .font) c wanted asked)
-    (cost-plain (c .euro) (c .font) asked (wrongIn (λ i. c .font) wanted (c .codes) (c .fonts)) (c .cursor))
+-- and costs its moves and its writes
+pub plan-length : (c : Condition) (wanted : List ℕ) (asked : ℕ)
+    → length (plan c wanted asked) ≡ moveCost asked (c .cursor) (flagged (wrong c wanted) 40 0)
+unfolding wrong wrongIn
+plan-length c wanted asked =
+    ap length (plan-made c wanted asked) ∙ made-length (λ i. c .font) c wanted asked
+    ∙ cost-one (c .euro) (c .font) asked (c .cursor) (flagged (wrong c wanted) 40 0)
+
+plan-most : (c : Condition) (wanted : List ℕ) (asked : ℕ) → length (plan c wanted asked) ≤ 44
+plan-most c wanted asked = rw (plan-length c wanted asked) (move-most asked (wrong c wanted) (c .cursor))
 
 -- bytes that serve in the selected font
-abbrev Plain : (Condition → List ℕ → Bool) → Condition → List ℕ → ℕ → List ℕ → Type 0
-Plain Allowed c wanted asked bytes = Serves Allowed (λ h. h ≡ c .font) c wanted (replicate 40 (c .font)) asked bytes
+abbrev InOneFont : (Condition → List ℕ → Bool) → Condition → List ℕ → ℕ → List ℕ → Type 0
+InOneFont Allowed c wanted asked bytes = Serves Allowed (λ h. h ≡ c .font) c wanted (replicate 40 (c .font)) asked bytes
 
 plan-serves : (c : Condition) (wanted : List ℕ) (asked : ℕ) → Plannable c wanted asked
-    → Plain (readingOrder false) c wanted asked (plan c wanted asked)
+    → InOneFont (readingOrder false) c wanted asked (plan c wanted asked)
 plan-serves c wanted asked r =
     rw (plan-made c wanted asked)
     (serves false (λ h. h ≡ c .font) (λ i. c .font) c wanted (replicate 40 (c .font)) asked r (length-replicate 40 (c .font))
@@ -77,7 +67,7 @@ plan-serves c wanted asked r =
     (stays false (c .euro) (isChar c) (c .font) (λ i. c .font) wanted asked))
 
 delivers-by : (Allowed : Condition → List ℕ → Bool) (c : Condition) (wanted : List ℕ) (asked : ℕ) (bytes : List ℕ)
-    → Plain Allowed c wanted asked bytes → length bytes ≤ 44 → Delivers Allowed c wanted asked bytes
+    → InOneFont Allowed c wanted asked bytes → length bytes ≤ 44 → Delivers Allowed c wanted asked bytes
 delivers-by Allowed c wanted asked bytes w m =
     record {
       gives = w .gives ∙ ap (picturedIn c wanted (replicate 40 (c .font)) asked) (w .ok);
@@ -111,14 +101,11 @@ module _ (c : Condition) (wanted fonts : List ℕ) (asked : ℕ) where
   unfolding fontsPlan wrongFor wrongIn
   fonts-made = refl
 
-  pub fonts-most : ((i : ℕ) → getD fonts i 0 ≤ 1) → c .font ≤ 1 → length (fontsPlan c wanted fonts asked) ≤ 104
+  fonts-most : ((i : ℕ) → getD fonts i 0 ≤ 1) → c .font ≤ 1 → length (fontsPlan c wanted fonts asked) ≤ 104
   fonts-most h l =
       let wrongs = wrongIn (λ i. getD fonts i 0) wanted (c .codes) (c .fonts) in
       rw (fonts-made, made-length (λ i. getD fonts i 0) c wanted asked)
       (cost-most (c .euro) (λ i. getD fonts i 0) h asked wrongs (c .cursor) (c .font) l)
-
-  pub given-most : Given c wanted fonts asked → length (fontsPlan c wanted fonts asked) ≤ 104
-  given-most g = fonts-most (up-to-at 1 fonts (g .fonts-1)) (g .font-1)
 
   fonts-serve : Plannable c wanted asked → Switchable c fonts
       → Serves (readingOrder true) (λ h. h ≤ 1) c wanted fonts asked (fontsPlan c wanted fonts asked)
@@ -145,18 +132,6 @@ module _ (c : Condition) (wanted fonts : List ℕ) (asked : ℕ) where
   pub either-fonts-most : ((i : ℕ) → getD fonts i 0 ≤ 1) → c .font ≤ 1 → length (eitherFontsPlan c wanted fonts asked) ≤ 104
   either-fonts-most h l = omega (arith, either-least (λ d. fontsPlan d wanted fonts asked) c, fonts-most h l)
 
-cleared-switchable : (c : Condition) (fonts : List ℕ) → Switchable c fonts → Switchable (clearOf c) fonts
-unfolding clearOf isChar
-cleared-switchable c fonts t =
-    record {
-      wanted-fonts-40 = t .wanted-fonts-40;
-      wanted-fonts-1 = t .wanted-fonts-1;
-      selected-1 = t .selected-1;
-      free18 = t .free18;
-      free19 = t .free19;
-      free1A = t .free1A;
-    }
-
 pub either-fonts-deliver : (c : Condition) (wanted fonts : List ℕ) (asked : ℕ) → Plannable c wanted asked → Switchable c fonts
     → FontsDelivers (eitherStart true) c wanted fonts asked (eitherFontsPlan c wanted fonts asked)
 either-fonts-deliver c wanted fonts asked r t =
@@ -171,10 +146,11 @@ pub one-font : (c : Condition) (wanted : List ℕ) (asked : ℕ)
     → fontsPlan c wanted (replicate 40 (c .font)) asked ≡ plan c wanted asked
 unfolding fontsPlan plan wrongFor wrong
 one-font c wanted asked =
-    let all : (j : ℕ) → j < 40 → getD (replicate 40 (c .font)) j 0 ≡ c .font = λ j l. getD-replicate 40 j (c .font) 0 l in
-    ap (λ (xs : List ℕ). fontsPlanOf (c .euro) wanted (λ i. getD (replicate 40 (c .font)) i 0) asked (c .cursor) (c .font) xs)
+    let font : ℕ → ℕ = λ i. getD (replicate 40 (c .font)) i 0 in
+    let all : (j : ℕ) → j < 40 → font j ≡ c .font = λ j l. getD-replicate 40 j (c .font) 0 l in
+    ap (λ (xs : List ℕ). fontsPlanOf (c .euro) wanted font asked (c .cursor) (c .font) xs)
     (flagged-same _ (wrong c wanted) 40 0 (λ j l h. rw (all j h)))
-    ∙ sym (plain (c .euro) wanted (λ i. getD (replicate 40 (c .font)) i 0) (wrong c wanted) asked (c .font) 40 0 (c .cursor) all)
+    ∙ sym (no-switches (c .euro) wanted font (wrong c wanted) asked (c .font) 40 0 (c .cursor) all)
 
 -- with the clear too
 pub either-one-font : (c : Condition) (wanted : List ℕ) (asked : ℕ)

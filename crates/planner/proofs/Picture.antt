@@ -1,7 +1,7 @@
 -- The plan gives the picture and the cursor, and no reading-order string that does is shorter.
 use mathlib.Core.Path.{_≡_, refl, sym, ap, _∙_, subst}
 use mathlib.Core.Logic.{_≢_, ⊎-elim}
-use mathlib.Core.Bool.{Bool, true, false, cond, not, _&&_}
+use mathlib.Core.Bool.{Bool, true, false, cond, not, _&&_, and-false, or-true}
 use mathlib.Core.List.{List, [], _∷_, _++_, append-nil}
 use Prim.Native.Nat.{ℕ, zero, suc, _+_, _≤_, _<_}
 use native.Mathlib.Omega.{arith}
@@ -13,7 +13,7 @@ use Rattle.laws.proofs.Tests.{by-cases, clash, both, by-equal}
 use Rattle.moves.specs.Moves.{any, next, moves, move, dist}
 use Rattle.moves.specs.Ways.{path, pathOf, firstByte}
 use Rattle.planner.proofs.Canvas.{Part, none, escape, place, back, Canvas, canvas, whole, wrongIn}
-use Rattle.planner.proofs.Canvas.{stepAt, run, allowed, lowAt, ordered, by-kind}
+use Rattle.planner.proofs.Canvas.{stepAt, run, mayCome, lowAt, ordered, by-kind}
 use Rattle.planner.specs.Plan.{flagged}
 use Rattle.planner.specs.Fonts.{wrongCell, switch, fontsPlanOf}
 use Rattle.moves.proofs.Moving.{dist-step, dist-most, dist-self, dist-zero, first-byte, next-below, move-below}
@@ -97,7 +97,7 @@ module _ (switching mark : Bool) (chars : ℕ → Bool) (font : ℕ → ℕ) (ws
   fewest : (bs : List ℕ) (k : Part) (p lo f : ℕ) (cs fs : List ℕ) → length cs ≡ 40 → length fs ≡ 40 → p < 40
       → ordered switching mark chars (canvas k p f cs fs) lo bs ≡ true
       → Done font ws q (run switching mark chars (canvas k p f cs fs) bs) → Paid k p lo f cs fs bs
-  unfolding stepAt allowed lowAt whole total
+  unfolding stepAt mayCome lowAt whole total
   fewest [] none p lo f cs fs lc lf hp o d =
       record {
         below = λ i l h. d .right i h;
@@ -110,7 +110,7 @@ module _ (switching mark : Bool) (chars : ℕ → Bool) (font : ℕ → ℕ) (ws
       by-kind switching mark chars
       (λ g l. ordered switching mark chars g l bs ≡ true → Done font ws q (run switching mark chars g bs)
       → Paid none p lo f cs fs (b ∷ bs))
-      p lo f cs fs b (both (allowed switching mark chars none p lo b) _ o .0)
+      p lo f cs fs b (both (mayCome switching mark chars none p lo b) _ o .0)
       (λ e l o d.
       let r = fewest bs none (next p) (suc p) f (set cs p b) (set fs p f) (length-set cs p b ∙ lc) (length-set fs p f ∙ lf)
       (next-below p hp) o d in
@@ -131,7 +131,7 @@ module _ (switching mark : Bool) (chars : ℕ → Bool) (font : ℕ → ℕ) (ws
       (λ e s y k o d. let r = fewest bs none p lo 0 cs fs lc lf hp o d in
       let t = cost-switch mark font 1 q p f 0 (wrongsIn font ws cs fs) (back-one k f) in
       record { below = r .below; enough = omega (arith, r .enough, t) })
-      (both (allowed switching mark chars none p lo b) _ o .1) d
+      (both (mayCome switching mark chars none p lo b) _ o .1) d
   fewest (b ∷ bs) escape p lo f cs fs lc lf hp o d =
       let r = fewest bs place p lo f cs fs lc lf hp (both (eqb b 0x48) _ o .1) d in
       record { below = r .below; enough = omega (arith, r .enough) }
@@ -168,22 +168,22 @@ module _ (switching mark : Bool) (chars : ℕ → Bool) (Ok : ℕ → Type 0) (f
 
   put-paints : (p lo b f : ℕ) (cs fs t : List ℕ) → chars b ≡ true → lo ≤ p
       → Paints (canvas none (next p) f (set cs p b) (set fs p f)) (suc p) t → Paints (canvas none p f cs fs) lo (b ∷ t)
-  unfolding stepAt allowed lowAt
-  put-paints p lo b f cs fs t e h g = record { steps = rw (e, le-leb lo p h) (g .steps); final = rw e (g .final) }
+  unfolding stepAt mayCome lowAt
+  put-paints p lo b f cs fs t e h g = record { steps = rw (e, and-false, le-leb lo p h) (g .steps); final = rw e (g .final) }
 
   module _ (free1B : chars 0x1B ≡ false) (free : (b : ℕ) → any (eqb b) moves ≡ true → chars b ≡ false) where
     move-paints : (m p lo f : ℕ) (cs fs t : List ℕ) → any (eqb m) moves ≡ true → eqb m 0x1B ≡ false
         → Paints (canvas none (move m p) f cs fs) lo t → Paints (canvas none p f cs fs) lo (m ∷ t)
-    unfolding stepAt allowed lowAt
+    unfolding stepAt mayCome lowAt
     move-paints m p lo f cs fs t i z g =
         let c = free m i in
-        record { steps = rw (c, z, i) (g .steps); final = rw (c, z, i) (g .final) }
+        record { steps = rw (c, z, i, or-true) (g .steps); final = rw (c, z, i) (g .final) }
 
     jump-paints : (p lo r f : ℕ) (cs fs t : List ℕ) → r < 40
         → Paints (canvas none r f cs fs) lo t → Paints (canvas none p f cs fs) lo (0x1B ∷ 0x48 ∷ r ∷ t)
-    unfolding stepAt allowed lowAt
+    unfolding stepAt mayCome lowAt
     jump-paints p lo r f cs fs t h g =
-        record { steps = rw (free1B, le-leb r 0x27 (omega arith)) (g .steps); final = rw free1B (g .final) }
+        record { steps = rw (free1B, or-true, le-leb r 0x27 (omega arith)) (g .steps); final = rw free1B (g .final) }
 
     walk-paints : (n a b lo f : ℕ) (cs fs t : List ℕ) → dist a b ≡ n → b < 40 → Paints (canvas none b f cs fs) lo t
         → Paints (canvas none a f cs fs) lo (pathOf n a b ++ t)
@@ -242,12 +242,12 @@ module _ (mark : Bool) (chars : ℕ → Bool) (font : ℕ → ℕ) (ws : List �
   Gets f p lo cs fs t = Paints true mark chars (λ h. h ≤ 1) font ws q (canvas none p f cs fs) lo t
 
   on-paints : (f p lo : ℕ) (cs fs t : List ℕ) → Gets 1 p lo cs fs t → Gets f p lo cs fs (0x19 ∷ t)
-  unfolding stepAt allowed lowAt
+  unfolding stepAt mayCome lowAt
   on-paints f p lo cs fs t z = record { steps = rw free19 (z .steps); final = rw free19 (z .final) }
 
   back-paints : (f p lo : ℕ) (cs fs t : List ℕ) → Gets 0 p lo cs fs t
       → Gets f p lo cs fs (cond mark (0x18 ∷ 0x1A ∷ []) (0x18 ∷ []) ++ t)
-  unfolding stepAt allowed lowAt
+  unfolding stepAt mayCome lowAt
   back-paints f p lo cs fs t z =
       by-cases mark
       (λ e.

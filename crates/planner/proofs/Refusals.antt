@@ -1,5 +1,5 @@
 -- What a refusal number says: 0 that the condition can be planned from, any other that nothing changes.
-use mathlib.Core.Path.{_≡_, refl, sym, subst⁻¹, _∙_}
+use mathlib.Core.Path.{_≡_, refl, sym, ap, subst⁻¹, _∙_}
 use mathlib.Core.Bool.{Bool, true, false, not, _&&_, _||_}
 use mathlib.Core.List.{List, [], _∷_}
 use Prim.Native.Nat.{ℕ, zero, suc, _≤_, _<_}
@@ -17,7 +17,7 @@ use Rattle.condition.specs.Bytes.{isChar}
 use Rattle.condition.specs.Steps.{eitherStart}
 use Rattle.condition.proofs.Characters.{plain-char, user-char, no-char}
 use Rattle.condition.proofs.Good.{good}
-use Rattle.condition.proofs.Ranges.{up-to-at, at-up-to, up-to-replicate}
+use Rattle.condition.proofs.Ranges.{up-to-at}
 use Rattle.moves.specs.Moves.{any, moves, numbersOf, Numbers}
 use Rattle.moves.proofs.Entries.{numbers-right}
 use Rattle.moves.proofs.Moving.{each-move}
@@ -28,8 +28,8 @@ use Rattle.planner.specs.Fonts.{FontsDelivers}
 use Rattle.planner.specs.Clear.{eitherPlan, eitherFontsPlan}
 use Rattle.planner.specs.Given.{Given}
 use Rattle.planner.specs.Answer.{onMove, onSwitch, lacks, someLacks, refusalBy, planRefusal, fontsRefusal, bytesBy, Promise}
-use Rattle.planner.proofs.Serving.{Plannable}
-use Rattle.planner.proofs.Demand.{Switchable, either-delivers, either-fonts-deliver}
+use Rattle.planner.proofs.Serving.{Plannable, Switchable}
+use Rattle.planner.proofs.Demand.{either-delivers, either-fonts-deliver}
 
 -- no refusal is given
 record Unrefused (long ranged blocked short : Bool) (c : Condition) (wanted : List ℕ) : Type 0 where
@@ -115,7 +115,6 @@ all-show c (w ∷ ws) e (suc i) h = all-show c ws (neither (lacks (c .users) w) 
 pub record Accepted (c : Condition) (wanted : List ℕ) (asked : ℕ) : Type 0 where
   pub plannable : length (c .codes) ≡ 40 → length (c .fonts) ≡ 40 → Plannable c wanted asked
   pub cursor-40 : c .cursor < 40
-  pub font-1 : c .font ≤ 1
   pub wanted-40 : length wanted ≡ 40
   pub asked-40 : asked < 40
 
@@ -138,7 +137,6 @@ accepted-by long ranged blocked short c wanted asked k l a u =
         shown = λ i h. all-show c wanted (k .codes-shown) i (omega arith);
       };
       cursor-40 = r .inside;
-      font-1 = good c (k .formed) .font-1;
       wanted-40 = l;
       asked-40 = omega arith;
     }
@@ -201,8 +199,6 @@ plan-given c wanted asked t =
     record {
       wanted-40 = t .wanted-40;
       fonts-40 = length-replicate 40 (c .font);
-      fonts-1 = up-to-replicate 1 40 (c .font) (t .font-1);
-      font-1 = t .font-1;
       cursor-40 = t .cursor-40;
       asked-40 = t .asked-40;
     }
@@ -214,8 +210,6 @@ fonts-given c wanted fonts asked t =
     record {
       wanted-40 = u .wanted-40;
       fonts-40 = t .fonts-40;
-      fonts-1 = at-up-to 1 fonts (t .switchable .wanted-fonts-1);
-      font-1 = u .font-1;
       cursor-40 = u .cursor-40;
       asked-40 = u .asked-40;
     }
@@ -236,10 +230,12 @@ module _ (number : ℕ) (bytes : List ℕ) (For : List ℕ → Type 0) (out : Li
       let t = ne-eqb number 0 (λ (h : number ≡ 0). z (e ∙ h)) in
       record { answer = rw (t, e); output = rw t; delivers = λ h. absurd (z h) }
 
-  pub taken-on : (after : List ℕ) (n : ℕ) → number ≡ 0 → For bytes → n ≡ length bytes → after ≡ atStart bytes out
+  pub taken-on : (after put : List ℕ) (n : ℕ) → number ≡ 0 → For bytes → (n ≡ length put) × (after ≡ atStart put out) → put ≡ bytes
       → Promise number bytes For out after (planned 0 n)
   unfolding bytesBy
-  taken-on after n e d en eo =
+  taken-on after put n e d w same =
+      let en : n ≡ length bytes = w .0 ∙ ap length same in
+      let eo : after ≡ atStart bytes out = w .1 ∙ ap (λ (bs : List ℕ). atStart bs out) same in
       record { answer = rw (e, en); output = rw e eo; delivers = λ h. rw (en, eo, take-append-seam bytes _) d }
 
   -- two answers that a promise allows, and what they leave in the buffer, are the same

@@ -1,11 +1,10 @@
 -- The canvas is the module itself, where that is in mode 1 and reads the planner's steps.
 use mathlib.Core.Path.{_≡_, refl, sym, ap, _∙_}
-use mathlib.Core.Bool.{Bool, true, false, cond, not, _&&_, _||_, or-false}
+use mathlib.Core.Bool.{Bool, true, false, cond, not, and-false, and-not-self}
 use mathlib.Core.List.{List, [], _∷_}
 use Prim.Native.Nat.{ℕ, _<_}
 use native.Mathlib.Numerals.{add-one}
 use native.Mathlib.Omega.{arith}
-use lib.Dec.{eqb, leb}
 use borrow.Author.Tests.{eqb-true, eq-eqb, leb-true, not-true}
 use Rattle.laws.proofs.Tests.{clash, both, and-same}
 use Rattle.users.specs.Users.{isUser}
@@ -16,12 +15,11 @@ use Rattle.condition.specs.Set.{withCells, withCursor, withPending, withFont, w
 use Rattle.condition.specs.Bytes as B
 use Rattle.condition.specs.Bytes.{isChar, controlOf, escapeOf, stepOf, runOf}
 use Rattle.condition.specs.Steps.{stepByte, lowAfter, owed, switchByte, nextByte, inOrder, readingOrder}
-use Rattle.moves.specs.Moves.{any, moves}
 use Rattle.moves.proofs.Moving.{next-below, move-below}
 use Rattle.condition.proofs.Characters.{no-user}
 use Rattle.moves.proofs.Interpreter.{Ready, moves-to, escapes, writes, placed, is-move}
 use Rattle.planner.proofs.Canvas.{Part, none, escape, place, back, Canvas, canvas, whole}
-use Rattle.planner.proofs.Canvas.{stepAt, step, run, allowed, lowAt, ordered, by-kind}
+use Rattle.planner.proofs.Canvas.{stepAt, step, run, mayCome, lowAt, ordered, by-kind}
 
 -- what of a condition stands for the part of a step that has come
 abbrev pub pendingAt : Part → Pending
@@ -65,48 +63,22 @@ orderedFrom switching c bs = ordered switching (c .euro) (isChar c) (canvasOf c)
 abbrev pub runFrom : Bool → Condition → List ℕ → Canvas
 runFrom switching c bs = run switching (c .euro) (isChar c) (canvasOf c) bs
 
--- 1Ah is awaited
-abbrev owes : Part → Bool
-owes none = false
-owes escape = false
-owes place = false
-owes back = true
-
--- where the mark is as it was at the start nothing is owed
-never-owed : (s e : Bool) → (s && e && not e) ≡ false
-never-owed true true = refl
-never-owed true false = refl
-never-owed false e = refl
-
--- within a step no switch comes
-no-switch : (s t : Bool) → (t || (s && false)) ≡ t
-no-switch true true = refl
-no-switch true false = refl
-no-switch false t = or-false t
-
--- between steps: a character write, a one-byte move or 1Bh, a switch
-by-char : (s t l m e x : Bool) → (cond t l (m || e) || (s && (not t && x))) ≡ cond t l (cond e true (cond m true (s && x)))
-by-char s true true m e x = refl
-by-char true true false m e x = refl
-by-char false true false m e x = refl
-by-char s false l true true x = refl
-by-char s false l true false x = refl
-by-char s false l false true x = refl
-by-char s false l false false x = refl
-
 module _ (switching : Bool) (c : Condition) (r : Ready c) where
   abbrev goes : Part → ℕ → ℕ → List ℕ → List ℕ → ℕ → Canvas
   goes k p f cs fs b = stepAt switching (c .euro) (isChar c) k p f cs fs b
 
   abbrev may : Part → ℕ → ℕ → ℕ → Bool
-  may k p lo b = allowed switching (c .euro) (isChar c) k p lo b
+  may k p lo b = mayCome switching (c .euro) (isChar c) k p lo b
 
   abbrev low : Part → ℕ → ℕ → ℕ → ℕ
   low k p lo b = lowAt switching (c .euro) (isChar c) k p lo b
 
   -- 1Ah is awaited only where switches are steps and the mark was on
   abbrev Fits : Part → Type 0
-  Fits k = owes k ≡ true → (switching ≡ true) × (c .euro ≡ true)
+  Fits none = Unit {0}
+  Fits escape = Unit {0}
+  Fits place = Unit {0}
+  Fits back = (switching ≡ true) × (c .euro ≡ true)
 
   embed-ready : (p f : ℕ) (cs fs : List ℕ) → p < 40 → Ready (stands c none p f cs fs)
   embed-ready p f cs fs h = record { one = r .one; still = r .still; inside = h; whole = refl }
@@ -120,7 +92,7 @@ module _ (switching : Bool) (c : Condition) (r : Ready c) where
   -- one byte of a string of steps
   same : (k : Part) (p lo f : ℕ) (cs fs : List ℕ) (b : ℕ) → p < 40 → Fits k → may k p lo b ≡ true
       → stepOf (stands c k p f cs fs) b ≡ embed c (goes k p f cs fs b)
-  unfolding stepAt allowed B.stepAt escapeOf controlOf isChar
+  unfolding stepAt mayCome B.stepAt escapeOf controlOf isChar
   same none p lo f cs fs b h m a =
       let d = stands c none p f cs fs in
       let g = embed-ready p f cs fs h in
@@ -139,24 +111,23 @@ module _ (switching : Bool) (c : Condition) (r : Ready c) where
       let d = stands c none p 0 cs fs in
       let e : isChar c b ≡ false = not-true _ (both (not (isChar c b)) _ a .0) in
       let y : b ≡ 0x1A = eqb-true b 0x1A (both (not (isChar c b)) _ a .1) in
-      ap (λ (t : Bool). stepOf (withEuro d t) b) refl
-      ∙ rw e (ap (λ (x : ℕ). controlOf (withEuro d false) x) y ∙ (λ i. withEuro d (sym (m refl .1) i)))
+      rw e (ap (λ (x : ℕ). controlOf (withEuro d false) x) y ∙ (λ i. withEuro d (sym (m .1) i)))
 
   -- and the cursor stays in its places
   inside : (k : Part) (p lo f : ℕ) (cs fs : List ℕ) (b : ℕ) → p < 40 → may k p lo b ≡ true
       → (goes k p f cs fs b .cursor < 40) × Fits (goes k p f cs fs b .part)
-  unfolding stepAt allowed
+  unfolding stepAt mayCome
   inside none p lo f cs fs b h a =
       by-kind switching (c .euro) (isChar c) (λ g l. (g .cursor < 40) × Fits (g .part)) p lo f cs fs b a
-      (λ e l. (next-below p h, λ x. clash x refl))
-      (λ e z. (h, λ x. clash x refl))
-      (λ e i. (move-below b p h, λ x. clash x refl))
-      (λ e s y. (h, λ x. clash x refl))
-      (λ e s y k. (h, λ x. (s, k)))
-      (λ e s y k. (h, λ x. clash x refl))
-  inside escape p lo f cs fs b h a = (h, λ x. clash x refl)
-  inside place p lo f cs fs b h a = (let l = leb-true b 0x27 a in omega arith, λ x. clash x refl)
-  inside back p lo f cs fs b h a = (h, λ x. clash x refl)
+      (λ e l. (next-below p h, tt))
+      (λ e z. (h, tt))
+      (λ e i. (move-below b p h, tt))
+      (λ e s y. (h, tt))
+      (λ e s y k. (h, (s, k)))
+      (λ e s y k. (h, tt))
+  inside escape p lo f cs fs b h a = (h, tt)
+  inside place p lo f cs fs b h a = (let l = leb-true b 0x27 a in omega arith, tt)
+  inside back p lo f cs fs b h a = (h, tt)
 
   -- a whole string
   runs : (bs : List ℕ) (k : Part) (p lo f : ℕ) (cs fs : List ℕ) → p < 40 → Fits k
@@ -174,7 +145,7 @@ module _ (switching : Bool) (c : Condition) (r : Ready c) where
   -- the lowest cell that may be written after a byte is the same
   next-low : (k : Part) (p lo f : ℕ) (cs fs : List ℕ) (b : ℕ) → may k p lo b ≡ true
       → lowAfter (stands c k p f cs fs) lo b ≡ low k p lo b
-  unfolding lowAfter lowAt allowed isChar
+  unfolding lowAfter lowAt mayCome isChar
   next-low none p lo f cs fs b a = ap (λ (n : ℕ). cond (isChar c b) n lo) (add-one p)
   next-low escape p lo f cs fs b a = refl
   next-low place p lo f cs fs b a = refl
@@ -186,20 +157,19 @@ module _ (switching : Bool) (c : Condition) (r : Ready c) where
   -- and so is what may come next
   may-come : (k : Part) (p lo f : ℕ) (cs fs : List ℕ) (b : ℕ) → Fits k
       → nextByte switching (c .euro) (stands c k p f cs fs) lo b ≡ may k p lo b
-  unfolding nextByte owed switchByte stepByte allowed isChar
+  unfolding nextByte owed switchByte stepByte mayCome isChar
   may-come none p lo f cs fs b m =
-      rw (never-owed switching (c .euro), is-move b)
-      (by-char switching (isChar c b) (leb lo p) (any (eqb b) moves) (eqb b 0x1B) (eqb b 0x18 || eqb b 0x19))
-  may-come escape p lo f cs fs b m = rw (never-owed switching (c .euro)) (no-switch switching (eqb b 0x48))
-  may-come place p lo f cs fs b m = rw (never-owed switching (c .euro)) (no-switch switching (leb b 0x27))
-  may-come back p lo f cs fs b m = rw (m refl .0, m refl .1)
+      rw (and-not-self (c .euro), and-false switching, is-move b)
+  may-come escape p lo f cs fs b m = rw (and-not-self (c .euro), and-false switching)
+  may-come place p lo f cs fs b m = rw (and-not-self (c .euro), and-false switching)
+  may-come back p lo f cs fs b m = rw (m .0, m .1)
 
   may-end : (k : Part) (p lo f : ℕ) (cs fs : List ℕ) → Fits k → inOrder switching (c .euro) (stands c k p f cs fs) lo [] ≡ whole k
   unfolding inOrder owed whole
-  may-end none p lo f cs fs m = rw (never-owed switching (c .euro))
+  may-end none p lo f cs fs m = rw (and-not-self (c .euro), and-false switching)
   may-end escape p lo f cs fs m = refl
   may-end place p lo f cs fs m = refl
-  may-end back p lo f cs fs m = rw (m refl .0, m refl .1)
+  may-end back p lo f cs fs m = rw (m .0, m .1)
 
   -- so the strings are the same
   orders : (bs : List ℕ) (k : Part) (p lo f : ℕ) (cs fs : List ℕ) → p < 40 → Fits k
@@ -222,14 +192,14 @@ module _ (switching : Bool) (c : Condition) (r : Ready c) where
   pub run-is : (bs : List ℕ) → orderedFrom switching c bs ≡ true → runOf c bs ≡ embed c (runFrom switching c bs)
   run-is bs o =
       ap (λ (d : Condition). runOf d bs) embedded
-      ∙ runs bs none (c .cursor) 0 (c .font) (c .codes) (c .fonts) (r .inside) (λ x. clash x refl) o
+      ∙ runs bs none (c .cursor) 0 (c .font) (c .codes) (c .fonts) (r .inside) tt o
 
   pub order-is : (bs : List ℕ) → readingOrder switching c bs ≡ orderedFrom switching c bs
   unfolding readingOrder
   order-is bs =
       rw (eq-eqb (c .mode) 1 (r .one))
       (ap (λ (d : Condition). inOrder switching (c .euro) d 0 bs) embedded
-      ∙ orders bs none (c .cursor) 0 (c .font) (c .codes) (c .fonts) (r .inside) (λ x. clash x refl))
+      ∙ orders bs none (c .cursor) 0 (c .font) (c .codes) (c .fonts) (r .inside) tt)
 
 -- a reading-order string leaves nothing half received
 whole-is : (k : Part) → whole k ≡ true → k ≡ none
@@ -244,5 +214,5 @@ module _ (switching mark : Bool) (chars : ℕ → Bool) where
       → run switching mark chars g bs .part ≡ none
   ends [] g lo o = whole-is (g .part) o
   ends (b ∷ bs) g lo o =
-      let may = allowed switching mark chars (g .part) (g .cursor) lo b in
+      let may = mayCome switching mark chars (g .part) (g .cursor) lo b in
       ends bs (step switching mark chars g b) (lowAt switching mark chars (g .part) (g .cursor) lo b) (both may _ o .1)

@@ -15,6 +15,7 @@ use Rattle.moves.proofs.Interpreter.{Ready}
 use Rattle.planner.specs.Plan.{Pictured}
 use Rattle.planner.specs.Fonts.{fontsPlanOf, picturedIn}
 use Rattle.planner.proofs.Canvas.{canvas}
+use Rattle.planner.proofs.Costs.{cost, length-plan}
 use Rattle.planner.proofs.Picture.{wrongsIn, Switches, deliver, Reaches, plan-reaches, plan-fewest}
 use Rattle.planner.proofs.Seam.{embed, canvasOf, orderedFrom, runFrom, run-is, order-is, ends}
 
@@ -28,6 +29,15 @@ pub record Plannable (c : Condition) (wanted : List ℕ) (asked : ℕ) : Type 0 
   pub escape-free : isChar c 0x1B ≡ false
   pub moves-free : (b : ℕ) → any (eqb b) moves ≡ true → isChar c b ≡ false
   pub shown : (i : ℕ) → i < 40 → isChar c (getD wanted i 0) ≡ true
+
+-- fonts that can be wanted of it, with steps to switch between them
+pub record Switchable (c : Condition) (fonts : List ℕ) : Type 0 where
+  pub wanted-fonts-40 : length fonts ≡ 40
+  pub wanted-fonts-1 : (i : ℕ) → getD fonts i 0 ≤ 1
+  pub selected-1 : c .font ≤ 1
+  pub free18 : isChar c 0x18 ≡ false
+  pub free19 : isChar c 0x19 ≡ false
+  pub free1A : isChar c 0x1A ≡ false
 
 module _ (switching : Bool) (c : Condition) (r : Ready c) (ws gs : List ℕ) (q : ℕ) (bs : List ℕ) where
   -- a string that reaches the picture gives it and leaves everything else
@@ -56,6 +66,12 @@ module _ (switching : Bool) (c : Condition) (r : Ready c) (ws gs : List ℕ) (q 
 abbrev pub made : (ℕ → ℕ) → Condition → List ℕ → ℕ → List ℕ
 made font c wanted asked =
     fontsPlanOf (c .euro) wanted font asked (c .cursor) (c .font) (wrongsIn font wanted (c .codes) (c .fonts))
+
+pub made-length : (font : ℕ → ℕ) (c : Condition) (wanted : List ℕ) (asked : ℕ)
+    → length (made font c wanted asked)
+    ≡ cost (c .euro) font asked (c .cursor, c .font) (wrongsIn font wanted (c .codes) (c .fonts))
+made-length font c wanted asked =
+    length-plan (c .euro) font wanted asked (c .cursor) (c .font) (wrongsIn font wanted (c .codes) (c .fonts))
 
 -- bytes that are one of the strings that are allowed, give the picture, with a font selected of which `Ok` holds, and are the
 -- fewest

@@ -1,7 +1,7 @@
 // The bytes of a plan.
-use crate::starts::codes_at;
-use crate::starts::differs;
-use crate::starts::fonts_at;
+use crate::cells::codes_at;
+use crate::cells::differs;
+use crate::cells::fonts_at;
 use crate::ways::put_way;
 use condition::Condition;
 use moves::Distances;

@@ -1,8 +1,8 @@
 // The length of a plan, counted and not put.
+use crate::cells::codes_at;
+use crate::cells::differs;
+use crate::cells::fonts_at;
 use crate::checks::is_user;
-use crate::starts::codes_at;
-use crate::starts::differs;
-use crate::starts::fonts_at;
 use crate::ways::number;
 use condition::Condition;
 use moves::Distances;
@@ -45,6 +45,7 @@ fn count_plan(
     let mut selected = c.font;
     let mut n = clear as u8;
     let mut j = 0;
+    // To the end of what is wanted, which is 40: the compiler would write out a loop whose length it knows.
     while j < wanted.len() {
         let i = j as u8;
         let font = fonts[j];

@@ -7,7 +7,7 @@ use Rattle.condition.specs.Steps.{eitherStart}
 use Rattle.planner.specs.Plan.{Delivers}
 use Rattle.planner.specs.Clear.{eitherPlan, eitherFontsPlan}
 use Rattle.planner.specs.Answer.{planRefusal}
-use Rattle.planner.proofs.Clear.{either-room, either-put}
+use Rattle.planner.proofs.Clear.{either-is}
 use Rattle.planner.proofs.Demand.{either-one-font}
 use Rattle.planner.proofs.Refusals.{Accepted, accepted, plan-delivers, plan-given, right-numbers, refused, taken-on}
 use borrow.Author.Needs.{needs}
@@ -82,16 +82,14 @@ put-plan-requires c κs =
     let t = accepts f in (
       plan-given _ _ _ (t .0),
       right-numbers _ (c .before .before .before .before .before .before .numbers .ensures .answer),
-      either-room _ _ _ _ (c .before .before .before .clear-wins .ensures)
-          (omega (arith, ap length (same f), delivered f .most, t .1)),
+      omega (arith, ap length (either-is _ _ _ (c .before .before .before .clear-wins .ensures) ∙ same f), delivered f .most, t .1),
     )
 
 cast-t16 : tie.Need-cast-t16
 cast-t16 c =
     let f = c .before .before .before .before .before .before .before .before .before .before in
     let wins = c .before .before .before .before .before .before .clear-wins .ensures in
-    let put = either-put _ _ _ _ _ _ wins (c .before .before .put-plan .ensures) in
-    omega (arith, put .0, ap length (same f), delivered f .most)
+    omega (arith, c .before .before .put-plan .ensures .0, ap length (either-is _ _ _ wins ∙ same f), delivered f .most)
 
 same-length : tie.Need-same-length
 same-length c = search needs
@@ -100,8 +98,7 @@ returns-2 : tie.Need-returns-2
 returns-2 c =
     let f = c .before .before .before .before .before .before .before .before .before .before in
     let wins = c .before .before .before .before .before .before .clear-wins .ensures in
-    let put = either-put _ _ _ _ _ _ wins (c .before .before .put-plan .ensures) in
-    taken-on _ _ _ _ _ _ (unrefused f) (delivered f) (rw (← same f) (put .0)) (rw (← same f) (put .1))
+    taken-on _ _ _ _ _ _ _ (unrefused f) (delivered f) (c .before .before .put-plan .ensures) (either-is _ _ _ wins ∙ same f)
 
 pub plan-spec : {M : Type 1} → statement M
 plan-spec =

@@ -1,4 +1,4 @@
-use mathlib.Core.Path.{_≡_, sym, _∙_}
+use mathlib.Core.Path.{_≡_, sym, ap, _∙_}
 use mathlib.Core.Bool.{true}
 use Prim.Native.Nat.{_≤_}
 use native.Mathlib.Omega.{arith}
@@ -7,7 +7,7 @@ use Rattle.condition.specs.Steps.{eitherStart}
 use Rattle.planner.specs.Fonts.{FontsDelivers}
 use Rattle.planner.specs.Clear.{eitherFontsPlan}
 use Rattle.planner.specs.Answer.{fontsRefusal}
-use Rattle.planner.proofs.Clear.{either-room, either-put}
+use Rattle.planner.proofs.Clear.{either-is}
 use Rattle.planner.proofs.Refusals.{FontsAccepted, fonts-accepted, fonts-plan-delivers, fonts-given, right-numbers}
 use Rattle.planner.proofs.Refusals.{refused, taken-on}
 use borrow.Author.Needs.{needs}
@@ -68,14 +68,14 @@ put-plan-requires c κs =
     let t = accepts f in (
       fonts-given _ _ _ _ (t .0),
       right-numbers _ (c .before .before .before .before .numbers .ensures .answer),
-      either-room _ _ _ _ (c .before .before .clear-wins .ensures) (omega (arith, delivered f .most, t .1)),
+      omega (arith, ap length (either-is _ _ _ (c .before .before .clear-wins .ensures)), delivered f .most, t .1),
     )
 
 cast-t14 : tie.Need-cast-t14
 cast-t14 c =
     let wins = c .before .before .before .before .before .clear-wins .ensures in
-    let put = either-put _ _ _ _ _ _ wins (c .before .before .put-plan .ensures) in
-    omega (arith, put .0, delivered (c .before .before .before .before .before .before .before .before) .most)
+    let f = c .before .before .before .before .before .before .before .before in
+    omega (arith, c .before .before .put-plan .ensures .0, ap length (either-is _ _ _ wins), delivered f .most)
 
 same-length : tie.Need-same-length
 same-length c = search needs
@@ -84,8 +84,7 @@ returns-2 : tie.Need-returns-2
 returns-2 c =
     let f = c .before .before .before .before .before .before .before .before in
     let wins = c .before .before .before .before .before .clear-wins .ensures in
-    let put = either-put _ _ _ _ _ _ wins (c .before .before .put-plan .ensures) in
-    taken-on _ _ _ _ _ _ (unrefused f) (delivered f) (put .0) (put .1)
+    taken-on _ _ _ _ _ _ _ (unrefused f) (delivered f) (c .before .before .put-plan .ensures) (either-is _ _ _ wins)
 
 pub plan-fonts-spec : {M : Type 1} → statement M
 plan-fonts-spec =

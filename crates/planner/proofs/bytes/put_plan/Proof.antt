@@ -3,8 +3,8 @@ use mathlib.Core.Logic.{⊎-elim}
 use Prim.Native.Nat.{_-_}
 use borrow.Author.Needs.{needs}
 use Rattle.planner.proofs.Canvas.{wrongIn}
-use Rattle.planner.proofs.Putting.{Planning, plan-start, plan-skip, plan-write, plan-end}
-use Rattle.planner.proofs.Putting.{way-room, code-room, end-room, end-long}
+use Rattle.planner.proofs.Counting.{Planning, plan-start, plan-skip, plan-write, plan-end}
+use Rattle.planner.proofs.Counting.{way-room, code-room, end-room, end-long}
 use Rattle.planner.proofs.Started.{clearing-long, clear-room, room-by, put-by}
 use Rattle.planner.proofs.bytes.put_plan.Statement.{statement}
 use Rattle.planner.proofs.bytes.put_plan.Tie as tie

@@ -1,14 +1,13 @@
 use mathlib.Core.Path.{sym, _∙_}
 use mathlib.Core.Logic.{⊎-elim}
-use Prim.Native.Nat.{ℕ, _+_, _-_, _≤_, _<_}
+use Prim.Native.Nat.{ℕ, _+_, _-_, _<_}
 use native.Mathlib.Omega.{arith}
-use lib.ListN.{length}
-use mir.Val.{boolByte}
 use borrow.Author.Needs.{needs}
 use Rattle.moves.proofs.Moving.{length-path}
 use Rattle.planner.proofs.Canvas.{wrongIn}
-use Rattle.planner.proofs.Counting.{planIn, Counting, count-start, count-skip, count-sum, count-room, count-write, count-end}
-use Rattle.planner.proofs.Started.{count-by, count-most}
+use Rattle.planner.proofs.Counting.{Counting, count-start, count-skip, count-sum, count-fits, count-write, count-end}
+use Rattle.planner.proofs.Counting.{end-fits}
+use Rattle.planner.proofs.Started.{count-by, clear-most}
 use Rattle.planner.proofs.counts.count_plan.Statement.{statement}
 use Rattle.planner.proofs.counts.count_plan.Tie as tie
 
@@ -36,18 +35,6 @@ loop-again c =
     (λ w. count-skip _ _ _ _ _ _ _ _ v _ _ _ (search needs) (sym d ∙ w .0 .left) (w .1) (w .2) (w .3))
     (c .if1 .came)
 
--- of all that is counted
-abbrev Whole : tie.After-fonts-at Inv-loop μ-loop → ℕ
-Whole c =
-    let a = c .before .before .before .before .args in
-    length (planIn (a .c .euro) (a .wanted .now) (a .fonts .now) (c .before .codes-at .result) (c .fonts-at .result) (a .asked)
-    (a .c .cursor) (a .c .font))
-
-most : (c : tie.After-fonts-at Inv-loop μ-loop) → boolByte (c .before .before .before .before .args .clear) + Whole c ≤ 105
-most c =
-    let a = c .before .before .before .before in
-    count-most (a .args .clear) _ _ _ _ _ _ (c .before .codes-at .ensures) (c .fonts-at .ensures) (a .pre .0)
-
 returns : tie.Need-returns Inv-loop μ-loop
 returns c =
     let f = c .before .before .before in
@@ -67,9 +54,9 @@ unfolding wrongIn
 fits c =
     let f = c .before .before in
     let v = f .before .before .before .before .before .loop .inv in
+    let one = clear-most (f .before .before .before .before .before .before .before .before .before .before .args .clear) in
     let sum = count-sum _ _ _ _ _ _ _ _ v _ _ (c .before .number .ensures) (c .switch-length .ensures) in
-    let room = count-room _ _ _ _ _ _ _ _ v (search needs) (sym (f .before .differs .ensures) ∙ f .if1 .taken) in
-    omega (arith, sum, room, most (f .before .before .before .before .before .before))
+    rw sum (count-fits _ _ _ _ _ _ _ _ v one (search needs) (sym (f .before .differs .ensures) ∙ f .if1 .taken))
 
 -- What the calls ask for ----------------------------------------------------------------------------------------------------------
 
@@ -136,8 +123,8 @@ number-requires-2 c κs =
 add-result : tie.Need-add-result Inv-loop μ-loop
 add-result c =
     let v = c .before .before .loop .inv in
-    rw (c .number2 .ensures, ← length-path)
-    (omega (arith, count-end _ _ _ _ _ _ _ _ v (search needs), most (c .before .before .before)))
+    let one = clear-most (c .before .before .before .before .before .before .before .args .clear) in
+    rw (c .number2 .ensures, ← length-path) (omega (arith, end-fits _ _ _ _ _ _ _ _ v one (search needs)))
 
 pub count-plan-spec : {M : Type 1} → statement M
 count-plan-spec =

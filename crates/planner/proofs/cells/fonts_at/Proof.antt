@@ -1,6 +1,6 @@
 use Rattle.condition.specs.Bytes.{clearOf}
-use Rattle.planner.proofs.starts.fonts_at.Statement.{statement}
-use Rattle.planner.proofs.starts.fonts_at.Tie as tie
+use Rattle.planner.proofs.cells.fonts_at.Statement.{statement}
+use Rattle.planner.proofs.cells.fonts_at.Tie as tie
 
 returns : tie.Need-returns
 unfolding clearOf

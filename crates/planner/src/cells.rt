@@ -1,4 +1,4 @@
-// What a plan starts from: the cells as they stand, or cleared.
+// The cells that a plan starts from, as they stand or cleared, and which of them are wrong.
 use condition::Condition;
 ghost use mathlib.Core.Path.{_≡_};
 ghost use Rattle.planner.specs.Fonts.{wrongCell};

@@ -1,6 +1,6 @@
 use Rattle.condition.specs.Bytes.{clearOf}
-use Rattle.planner.proofs.starts.codes_at.Statement.{statement}
-use Rattle.planner.proofs.starts.codes_at.Tie as tie
+use Rattle.planner.proofs.cells.codes_at.Statement.{statement}
+use Rattle.planner.proofs.cells.codes_at.Tie as tie
 
 returns : tie.Need-returns
 unfolding clearOf
