@@ -127,9 +127,9 @@ uint32_t sign_run(uint8_t *block, size_t block_len,
 /* Writes to out the bytes that bring the 40 wanted codes onto the sign, each in the selected
    font, and the cursor to the asked place: at most 44, and no string of cursor moves and writes
    in reading order does it with fewer, not even with a clear ahead of it. A clear is 0Eh while no
-   user character stands there: it is the first byte where the bytes are fewer so, and then the sign
-   is blank until the last one is through (docs/HOST.md, A plan that clears). The block stays as it
-   is: give the bytes to sign_run, and send them where it answers 0.
+   user character stands there: it is the first byte where the bytes are fewer so; the sign is then
+   blank, and the picture is there when the last one is through (docs/HOST.md, A plan that clears).
+   The block stays as it is: give the bytes to sign_run, and send them where it answers 0.
    Answers how many bytes were written (0: all is there already), and nothing else of out changes;
    or 256 plus 1, 2, 3, 6, 7, 8, 9 or 10, and then out did not change. */
 uint32_t sign_plan(const uint8_t *block, size_t block_len,

@@ -264,7 +264,7 @@ pub fn kept(c: &Condition) -> [u8; CELLS] {
     c.codes.map(|x| if x < 0x20 && !c.is_user(x) { 0x41 } else { x })
 }
 
-/// A glass that is full, or nearly, in font 0 or 1 of the cells, to start from.
+/// A glass that is full, or nearly, most cells in the selected font, to start from.
 pub fn full(c: &mut Condition, rng: &mut Rng) {
     for cell in 0..CELLS {
         c.codes[cell] = if rng.once_in(9) { 0x20 } else { wanted_code(c, rng) };

@@ -42,7 +42,8 @@ fn main() {
         wanted.codes[p.rng.below(CELLS)] = 0x20;
         p.try_picture(&c, &wanted);
     }
-    // a full glass, and nearly full ones, to a blank picture: from every cursor to every cursor
+    // a full glass, and one that is blank but for a few cells, to a blank picture: from every cursor to every
+    // cursor
     for (from, to) in pairs() {
         let mut c = Condition::power_up(1);
         c.cursor = from;

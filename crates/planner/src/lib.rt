@@ -44,7 +44,7 @@ pub fn plan(c: Condition, wanted: &[u8], asked: u32, out: &mut [u8]) -> Planned
 }
 
 // The bytes that give the wanted codes, each in its wanted font, and the asked cursor, at the start of out; or a refusal, and
-// nothing changes. The selected font at the end is that of the last write.
+// nothing changes. They may start with 0Eh, which clears. The selected font at the end is that of the last write.
 pub fn plan_fonts(c: Condition, wanted: &[u8], fonts: &[u8], asked: u32, out: &mut [u8]) -> Planned
     ensures { λ r. ⌜ PlansFonts c (now (wanted .entry)) (now (fonts .entry)) asked (now (out .entry)) (now (out .exit)) r ⌝ }
 {
