@@ -203,6 +203,15 @@ static void from_a_clear(void) {
     want[0] = written_over[0] = 0x0E;
     check("clear: 0Eh is wanted", planned(plan(0), written_over, 40) && planned(plan_fonts(0), written_over, 40));
 
+    /* Katakana is selected: blanks in it are there after the clear, others are written */
+    const uint8_t in_selected[] = {0x0E, 0x18, 0x42, 0x08};
+    AFTER(0x19);
+    check("clear: a full glass", run(full + 8, 40) == 0);
+    want[0] = 0x42;
+    check("clear: blanks in the other font", plan_fonts(0) == 41 && out[0] == 0x18);
+    memset(fonts + 1, 1, 39);
+    check("clear: blanks in the selected font", planned(plan_fonts(0), in_selected, sizeof in_selected));
+
     const uint8_t tie[] = {0x20, 0x1B, 0x48, 0x05};
     AFTER(0x41, 0x0C);
     want[0] = 0x20;

@@ -103,7 +103,7 @@ cleared-switchable c fonts t =
 
 -- Both kinds of start -------------------------------------------------------------------------------------------------------------
 
--- a string without a clear is one of them, and so is 0Eh with a string from the cleared condition
+-- a string without a clear is one of them
 plain-start : (s : Bool) (c : Condition) (bs : List ℕ) → readingOrder s c bs ≡ true → eitherStart s c bs ≡ true
 unfolding eitherStart
 plain-start s c [] e = e
@@ -112,10 +112,10 @@ plain-start s c (b ∷ bs) e = rw e
 module _ (switching : Bool) (Ok : ℕ → Type 0) (c : Condition) (r : Ready c) (wanted gs : List ℕ) (asked : ℕ)
     (from : Condition → List ℕ) (plain : Serves (readingOrder switching) Ok c wanted gs asked (from c))
     (cleared : Serves (readingOrder switching) Ok (clearOf c) wanted gs asked (from (clearOf c))) where
+  -- and so is 0Eh with a string from the cleared condition
   cleared-start : isUser (c .users) 0x0E ≡ false → eitherStart switching c (planBy from true c) ≡ true
   unfolding eitherStart
-  cleared-start u =
-      rw (clear-byte c r u, clears c r u, cleared .ordered, or-true)
+  cleared-start u = rw (clear-byte c r u, clears c r u, cleared .ordered, or-true)
 
   cleared-gives : isUser (c .users) 0x0E ≡ false → runOf c (planBy from true c) ≡ picturedIn c wanted gs asked (cleared .selected)
   unfolding runOf

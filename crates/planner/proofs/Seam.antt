@@ -151,15 +151,11 @@ module _ (switching : Bool) (c : Condition) (r : Ready c) where
   next-low place p lo f cs fs b a = refl
   next-low back p lo f cs fs b a = rw (not-true (isChar c b) (both (not (isChar c b)) _ a .0))
 
-  embedded : c ≡ embed c (canvasOf c)
-  embedded = λ i. withPending c (r .whole i)
-
   -- and so is what may come next
   may-come : (k : Part) (p lo f : ℕ) (cs fs : List ℕ) (b : ℕ) → Fits k
       → nextByte switching (c .euro) (stands c k p f cs fs) lo b ≡ may k p lo b
   unfolding nextByte owed switchByte stepByte mayCome isChar
-  may-come none p lo f cs fs b m =
-      rw (and-not-self (c .euro), and-false switching, is-move b)
+  may-come none p lo f cs fs b m = rw (and-not-self (c .euro), and-false switching, is-move b)
   may-come escape p lo f cs fs b m = rw (and-not-self (c .euro), and-false switching)
   may-come place p lo f cs fs b m = rw (and-not-self (c .euro), and-false switching)
   may-come back p lo f cs fs b m = rw (m .0, m .1)
@@ -188,6 +184,9 @@ module _ (switching : Bool) (c : Condition) (r : Ready c) where
       ∙ orders bs (g .part) (g .cursor) (low k p lo b) (g .font) (g .codes) (g .fonts) (n .0) (n .1)))
 
   -- From c itself -----------------------------------------------------------------------------------------------------------
+
+  embedded : c ≡ embed c (canvasOf c)
+  embedded = λ i. withPending c (r .whole i)
 
   pub run-is : (bs : List ℕ) → orderedFrom switching c bs ≡ true → runOf c bs ≡ embed c (runFrom switching c bs)
   run-is bs o =
