@@ -14,6 +14,7 @@ use Rattle.planner.specs.Plan.{flagged}
 use Rattle.planner.specs.Fonts.{switch, fontsPlanOf}
 use Rattle.moves.proofs.Moving.{next-below, length-path}
 use Rattle.planner.proofs.Canvas.{wrongIn}
+use Rattle.planner.proofs.Picture.{planOver}
 use Rattle.planner.proofs.Costs.{flagged-yes, flagged-no, flagged-length, cost-far, length-plan}
 
 left-suc : (i : ℕ) → i < 40 → 40 - i ≡ suc (40 - (i + 1))
@@ -35,7 +36,7 @@ module _ (e : Bool) (ws gs cs fs : List ℕ) (q p₀ f₀ : ℕ) where
   bad = wrongIn (λ j. getD gs j 0) ws cs fs
 
   unfoldable pub planIn : List ℕ
-  planIn = fontsPlanOf e ws (λ j. getD gs j 0) q p₀ f₀ (flagged bad 40 0)
+  planIn = planOver e (λ j. getD gs j 0) ws q p₀ f₀ cs fs
 
   -- a byte holds its length
   pub plan-far : length planIn ≤ 243

@@ -59,6 +59,10 @@ extra back = 1
 abbrev pub wrongsIn : (ℕ → ℕ) → List ℕ → List ℕ → List ℕ → List ℕ
 wrongsIn font ws cs fs = flagged (wrongIn font ws cs fs) 40 0
 
+-- the plan without a clear from a place and a selected font, over the cells as they stand
+abbrev pub planOver : Bool → (ℕ → ℕ) → List ℕ → ℕ → ℕ → ℕ → List ℕ → List ℕ → List ℕ
+planOver mark font ws q p f cs fs = fontsPlanOf mark ws font q p f (wrongsIn font ws cs fs)
+
 -- Fewest -----------------------------------------------------------------------------------------------------------------------
 
 -- every cell is right, and the cursor is where asked
@@ -277,9 +281,8 @@ pub record Reaches (switching mark : Bool) (chars : ℕ → Bool) (ws gs : List 
 module _ (switching mark : Bool) (chars : ℕ → Bool) (font : ℕ → ℕ) (ws gs : List ℕ) (q p f : ℕ) (cs fs : List ℕ)
     (lw : length ws ≡ 40) (lg : length gs ≡ 40) (lc : length cs ≡ 40) (lf : length fs ≡ 40)
     (same : (i : ℕ) → i < 40 → getD gs i 0 ≡ font i) (hp : p < 40) where
-  -- the plan
   abbrev planHere : List ℕ
-  planHere = fontsPlanOf mark ws font q p f (wrongsIn font ws cs fs)
+  planHere = planOver mark font ws q p f cs fs
 
   pub plan-reaches : (Ok : ℕ → Type 0) → Paints switching mark chars Ok font ws q (canvas none p f cs fs) 0 planHere
       → Reaches switching mark chars ws gs q (canvas none p f cs fs) planHere

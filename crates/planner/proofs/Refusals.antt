@@ -152,7 +152,6 @@ accepted c wanted asked room e =
 pub record FontsAccepted (c : Condition) (wanted fonts : List ℕ) (asked : ℕ) : Type 0 where
   pub codes : Accepted c wanted asked
   pub switchable : Switchable c fonts
-  pub fonts-40 : length fonts ≡ 40
 
 pub fonts-accepted : (c : Condition) (wanted fonts : List ℕ) (asked room : ℕ) → fontsRefusal c wanted fonts asked room ≡ 0
     → FontsAccepted c wanted fonts asked × (104 ≤ room)
@@ -175,7 +174,6 @@ fonts-accepted c wanted fonts asked room e =
           free19 = no-char c 0x19 (n1 .1) (omega arith);
           free1A = no-char c 0x1A (n2 .1) (omega arith);
         };
-        fonts-40 = m;
       },
       ltb-false room 104 (k .room),
     )
@@ -209,7 +207,7 @@ fonts-given c wanted fonts asked t =
     let u = t .codes in
     record {
       wanted-40 = u .wanted-40;
-      fonts-40 = t .fonts-40;
+      fonts-40 = t .switchable .wanted-fonts-40;
       cursor-40 = u .cursor-40;
       asked-40 = u .asked-40;
     }

@@ -13,10 +13,10 @@ use Rattle.condition.specs.Steps.{readingOrder}
 use Rattle.moves.specs.Moves.{any, moves}
 use Rattle.moves.proofs.Interpreter.{Ready}
 use Rattle.planner.specs.Plan.{Pictured}
-use Rattle.planner.specs.Fonts.{fontsPlanOf, picturedIn}
+use Rattle.planner.specs.Fonts.{picturedIn}
 use Rattle.planner.proofs.Canvas.{canvas}
 use Rattle.planner.proofs.Costs.{cost, length-plan}
-use Rattle.planner.proofs.Picture.{wrongsIn, Switches, deliver, Reaches, plan-reaches, plan-fewest}
+use Rattle.planner.proofs.Picture.{wrongsIn, planOver, Switches, deliver, Reaches, plan-reaches, plan-fewest}
 use Rattle.planner.proofs.Seam.{embed, canvasOf, orderedFrom, runFrom, run-is, order-is, ends}
 
 -- a condition that can be planned from, and codes that it can show
@@ -64,8 +64,7 @@ module _ (switching : Bool) (c : Condition) (r : Ready c) (ws gs : List ℕ) (q 
 
 -- the plan for the wanted font of each cell, and what it costs
 abbrev pub made : (ℕ → ℕ) → Condition → List ℕ → ℕ → List ℕ
-made font c wanted asked =
-    fontsPlanOf (c .euro) wanted font asked (c .cursor) (c .font) (wrongsIn font wanted (c .codes) (c .fonts))
+made font c wanted asked = planOver (c .euro) font wanted asked (c .cursor) (c .font) (c .codes) (c .fonts)
 
 pub made-length : (font : ℕ → ℕ) (c : Condition) (wanted : List ℕ) (asked : ℕ)
     → length (made font c wanted asked)
