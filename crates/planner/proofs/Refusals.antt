@@ -7,7 +7,7 @@ use native.Mathlib.Omega.{arith}
 use lib.Dec.{eqb, ltb, leb}
 use lib.ListN.{length, getD, replicate, length-replicate}
 use lib.Seq.{take-append-seam}
-use borrow.Author.Tests.{eqb-true, ne-eqb, ltb-false, leb-true, not-false}
+use borrow.Author.Tests.{eqb-true, ne-eqb, ltb-false, le-ltb, leb-true, not-false}
 use Rattle.laws.proofs.Tests.{by-cases, clash, both, neither, passed}
 use Rattle.users.specs.declared.Users.{Users}
 use Rattle.users.specs.Users.{isUser}
@@ -16,14 +16,15 @@ use Rattle.condition.specs.Condition.{idle, wellFormed, allUpTo}
 use Rattle.condition.specs.Bytes.{isChar}
 use Rattle.condition.specs.Steps.{eitherStart}
 use Rattle.condition.proofs.Characters.{plain-char, user-char, no-char}
-use Rattle.condition.proofs.Good.{good}
-use Rattle.condition.proofs.Ranges.{up-to-at}
+use Rattle.condition.proofs.Good.{good, formed}
+use Rattle.condition.proofs.Kept.{cells-kept, cursor-kept}
+use Rattle.condition.proofs.Ranges.{up-to-at, up-to-replicate}
 use Rattle.moves.specs.Moves.{any, moves, numbersOf, Numbers}
 use Rattle.moves.proofs.Entries.{numbers-right}
 use Rattle.moves.proofs.Moving.{each-move}
 use Rattle.moves.proofs.Interpreter.{ready}
 use Rattle.planner.specs.declared.Planned.{Planned}
-use Rattle.planner.specs.Plan.{atStart, Delivers}
+use Rattle.planner.specs.Plan.{atStart, pictured, Delivers}
 use Rattle.planner.specs.Fonts.{FontsDelivers}
 use Rattle.planner.specs.Clear.{eitherPlan, eitherFontsPlan}
 use Rattle.planner.specs.Given.{Given}
@@ -190,6 +191,25 @@ fonts-plan-delivers c wanted fonts asked room e lc lf =
     let t = fonts-accepted c wanted fonts asked room e .0 in
     either-fonts-deliver c wanted fonts asked (t .codes .plannable lc lf) (t .switchable)
 
+-- What an accepted plan leaves is the picture, and from there the planner refuses what it refused before: neither the cells nor the
+-- cursor decide a refusal, as long as the condition is well formed
+pub left-alike : (c : Condition) (wanted : List ℕ) (asked room : ℕ) → planRefusal c wanted asked room ≡ 0
+    → (w : List ℕ) (a r : ℕ) → planRefusal (pictured c wanted asked) w a r ≡ planRefusal c w a r
+unfolding planRefusal refusalBy
+left-alike c wanted asked room e w a r =
+    let k = unrefused (eqb (length wanted) 40) (leb asked 39) (onMove (c .users)) (ltb room 44) c wanted e in
+    let l : asked ≤ 39 = leb-true asked 39 (k .in-range) in
+    let g = good c (k .formed) in
+    let cells = cells-kept c g wanted (replicate 40 (c .font)) (up-to-replicate 1 40 (c .font) (g .font-1)) in
+    let still = ready c (k .formed) (k .mode-1) (k .nothing-half) .still in
+    rw (formed (pictured c wanted asked) (cursor-kept _ cells asked (omega arith) still), k .formed)
+
+-- nor does room that is enough
+pub with-room : (c : Condition) (wanted : List ℕ) (asked room : ℕ) → 44 ≤ room
+    → planRefusal c wanted asked room ≡ planRefusal c wanted asked 44
+unfolding planRefusal
+with-room c wanted asked room h = rw (le-ltb room 44 h)
+
 -- and what puts them is given what it asks for
 pub plan-given : (c : Condition) (wanted : List ℕ) (asked : ℕ) → Accepted c wanted asked
     → Given c wanted (replicate 40 (c .font)) asked
@@ -235,6 +255,16 @@ module _ (number : ℕ) (bytes : List ℕ) (For : List ℕ → Type 0) (out : Li
       let en : n ≡ length bytes = w .0 ∙ ap length same in
       let eo : after ≡ atStart bytes out = w .1 ∙ ap (λ (bs : List ℕ). atStart bs out) same in
       record { answer = rw (e, en); output = rw e eo; delivers = λ h. rw (en, eo, take-append-seam bytes _) d }
+
+  -- what an accepted plan tells
+  pub told : (after : List ℕ) (r : Planned) → number ≡ 0 → Promise number bytes For out after r
+      → (r .length ≡ length bytes) × (after ≡ atStart bytes out) × For bytes
+  unfolding bytesBy
+  told after r e p =
+      let en : r .length ≡ length bytes = ap (λ (q : Planned). q .length) (p .answer) ∙ rw e in
+      let eo : after ≡ atStart bytes out = p .output ∙ rw e in
+      let d = p .delivers (ap (λ (q : Planned). q .refusal) (p .answer) ∙ e) in
+      (en, eo, rw (en, eo, take-append-seam bytes _) at d)
 
   -- two answers that a promise allows, and what they leave in the buffer, are the same
   pub one-plan : (a b : List ℕ) (r s : Planned) → Promise number bytes For out a r → Promise number bytes For out b s

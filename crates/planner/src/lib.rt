@@ -1,6 +1,7 @@
 // The planners: the bytes that give a picture and a cursor, in one font or in two.
 use condition::Condition;
-ghost use Rattle.planner.specs.Answer.{Plans, PlansFonts};
+ghost use mathlib.Core.Path.{_≡_};
+ghost use Rattle.planner.specs.Answer.{planRefusal, Plans, PlansFonts};
 
 mod bytes;
 mod cells;
@@ -17,6 +18,13 @@ pub const ROOM_FONTS: usize = 104;
 pub struct Planned {
     pub refusal: u8,
     pub length: u8,
+}
+
+// What `plan` refuses by, with so much room in its output: 0 for nothing.
+pub fn refusal(c: Condition, wanted: &[u8], asked: u32, room: usize) -> u8
+    ensures { λ r. ⌜ r ≡ planRefusal c (now (wanted .entry)) asked room ⌝ }
+{
+    checks::of_plan(c, wanted, asked, room)
 }
 
 // The bytes that give the wanted codes in the selected font and the asked cursor, at the start of out; or a refusal, and

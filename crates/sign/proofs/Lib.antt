@@ -1,1 +1,2 @@
 pub mod Hosted
+pub mod Reels

@@ -3,7 +3,7 @@
 use Prim.Native.Nat.{ℕ, _+_, _*_, _%_, _/_, _<_}
 use mathlib.Core.Path.{_≡_}
 use mathlib.Core.Bool.{true, false, cond, not, _&&_}
-use mathlib.Core.List.{List, [], _∷_, _++_}
+use mathlib.Core.List.{List, [], _∷_, _++_, flatten}
 use lib.ListN.{length, getD, take, drop}
 use lib.Dec.{eqb, ltb, leb}
 use Rattle.condition.specs.Condition.{powerUp}
@@ -20,6 +20,8 @@ use Rattle.planner.specs.Plan.{Delivers}
 use Rattle.planner.specs.Fonts.{FontsDelivers}
 use Rattle.planner.specs.Clear.{eitherPlan, eitherFontsPlan}
 use Rattle.planner.specs.Answer.{planRefusal, fontsRefusal, outBy}
+use Rattle.reel.specs.declared.Stop.{Stop}
+use Rattle.reel.specs.Reel.{plansOf, naming64, stopOf, writtenBy, lengthsOf, reelOut, InTurn}
 
 -- The tally as four-byte numbers, low byte first -------------------------------------------------------------------------
 
@@ -89,6 +91,40 @@ abbrev pub HostFonts : List ℕ → List ℕ → List ℕ → ℕ → List ℕ �
 HostFonts b codes fonts cursor out r left =
     HostPromise (hostFontsRefusal b codes fonts cursor out) (eitherFontsPlan (conditionIn b) codes fonts cursor)
     (FontsDelivers (eitherStart true) (conditionIn b) codes fonts cursor) out r left
+
+-- Reel --------------------------------------------------------------------------------------------------------------------
+
+-- 1: a block not 512 bytes, or codes not 40 for each asked cursor; 2 and 3: as reading the block. These name 64. Then as the reel
+unfoldable pub blockStop : List ℕ → List ℕ → List ℕ → ℕ → Stop
+blockStop b codes cursors room =
+    let n = hostRefusalBy (eqb (length codes) (40 * length cursors)) b 0 in
+    cond (eqb n 0) (stopOf (conditionIn b) codes cursors room) (naming64 n)
+
+-- 1 also for lengths not 64
+unfoldable pub hostReelStop : List ℕ → List ℕ → List ℕ → List ℕ → List ℕ → Stop
+hostReelStop b codes cursors lengths out =
+    cond (eqb (length lengths) 64) (blockStop b codes cursors (length out)) (naming64 1)
+
+-- the answer as one number: all bytes together, or 65,536 plus 256 times the picture plus the refusal
+unfoldable pub reelNumber : Stop → ℕ → ℕ
+reelNumber stop bytes = cond (eqb (stop .refusal) 0) bytes (65536 + 256 * stop .picture + stop .refusal)
+
+-- the lengths are part of the answer: written when accepted, and all 0 when refused, as long as their slice has 64 bytes
+unfoldable pub lengthsAfter : Stop → List (List ℕ) → List ℕ → List ℕ
+lengthsAfter stop plans lengths = cond (eqb (length lengths) 64) (lengthsOf (writtenBy stop plans)) lengths
+
+-- The answer r of a reel, by where it is refused, and the lengths and the buffer that it leaves. An answer below 65,536 says that so
+-- many bytes stand at the buffer's start, and that the pictures come in turn by them
+pub record HostReel (b codes cursors before out : List ℕ) (r : ℕ) (after left : List ℕ) : Type 0 where
+  pub answer : r ≡ reelNumber (hostReelStop b codes cursors before out) (length (flatten (plansOf (conditionIn b) codes cursors)))
+  pub lengths : after ≡ lengthsAfter (hostReelStop b codes cursors before out) (plansOf (conditionIn b) codes cursors) before
+  pub buffer : left ≡ reelOut (hostReelStop b codes cursors before out) (plansOf (conditionIn b) codes cursors) out
+  pub delivers : r < 65536 → InTurn (conditionIn b) codes cursors after left
+
+-- the sum of bytes
+unfoldable pub sumOf : List ℕ → ℕ
+sumOf [] = 0
+sumOf (x ∷ xs) = x + sumOf xs
 
 -- Power-up ----------------------------------------------------------------------------------------------------------------
 

@@ -4,10 +4,15 @@ ghost use Prim.Native.Nat.{_+_, _*_, _/_, _%_, _≤_, _<_};
 ghost use lib.ListN.{length};
 ghost use Rattle.questions.specs.Questions.{hostView, hostDot, hostUnderline, hostLit};
 ghost use Rattle.sign.specs.Calls.{numberAt, fourBytes, tallyAt, tallyBytes};
-ghost use Rattle.sign.specs.Calls.{HostRun, HostPlan, HostFonts, HostPowerUp};
+ghost use Rattle.layout.specs.Layout.{conditionIn};
+ghost use Rattle.reel.specs.Reel.{Promise};
+ghost use Rattle.sign.specs.Calls.{blockStop, reelNumber, sumOf};
+ghost use Rattle.sign.specs.Calls.{HostRun, HostPlan, HostFonts, HostReel, HostPowerUp};
 use condition::Condition;
 use host::Base;
 use interpreter::Tally;
+use reel::Reeled;
+use reel::Stop;
 
 // The host's tally: four four-byte numbers.
 const TALLY: usize = 16;
@@ -151,6 +156,72 @@ pub extern "C" fn sign_plan_fonts(
     let c = got.condition;
     let p = planner::plan_fonts(c, codes, fonts, cursor, out);
     host::answer(Base::Plan, p.refusal, p.length as u32)
+}
+
+// A reel on the block that is lent, with its refusals.
+fn reeled(block: &[u8], codes: &[u8], cursors: &[u8], out: &mut [u8]) -> Reeled
+    ensures { λ r. ⌜ Promise (blockStop (now (block .entry)) (now (codes .entry)) (now (cursors .entry)) (length (now (out .entry))))
+        (conditionIn (now (block .entry))) (now (codes .entry)) (now (cursors .entry)) (now (out .entry)) (now (out .exit)) r ⌝ }
+{
+    if !reel::matched(codes, cursors) {
+        return reel::refused(reel::naming_64(1));
+    }
+    let got = host::opened(block);
+    if got.refusal != 0 {
+        return reel::refused(reel::naming_64(got.refusal));
+    }
+    let c = got.condition;
+    reel::reel(c, codes, cursors, out)
+}
+
+// All bytes together.
+fn sum(lengths: &[u8]) -> u32
+    requires { ⌜ length (now lengths) ≤ 64 ⌝ }
+    ensures { λ r. ⌜ r ≡ sumOf (now (lengths .entry)) ⌝ }
+{
+    let mut bytes: u32 = 0;
+    let mut i = 0;
+    while i < lengths.len() {
+        bytes += lengths[i] as u32;
+        i += 1;
+    }
+    bytes
+}
+
+// The answer of a reel as one number.
+fn reel_number(stop: Stop, bytes: u32) -> u32
+    ensures { λ r. ⌜ r ≡ reelNumber stop bytes ⌝ }
+{
+    if stop.refusal != 0 {
+        return 65536 + 256 * (stop.picture as u32) + (stop.refusal as u32);
+    }
+    bytes
+}
+
+// Plans a reel in the selected font on the block that is lent; answers all bytes together, or 65,536 plus 256 times the picture
+// plus the refusal.
+#[no_mangle]
+pub extern "C" fn sign_reel(
+    block: &[u8],
+    codes: &[u8],
+    cursors: &[u8],
+    lengths: &mut [u8],
+    out: &mut [u8],
+) -> u32
+    ensures { λ r. ⌜ HostReel (now (block .entry)) (now (codes .entry)) (now (cursors .entry)) (now (lengths .entry))
+        (now (out .entry)) r (now (lengths .exit)) (now (out .exit)) ⌝ }
+{
+    if lengths.len() != reel::MOST {
+        return reel_number(reel::naming_64(1), 0);
+    }
+    let r = reeled(block, codes, cursors, out);
+    let counts = r.lengths;
+    row::copy(lengths, &counts);
+    let stop = Stop {
+        picture: r.picture,
+        refusal: r.refusal,
+    };
+    reel_number(stop, sum(&counts))
 }
 
 // Writes the power-up block for a default font; answers 0 or the refusal.
