@@ -1,6 +1,6 @@
 #!/bin/sh
 # Builds and runs one test, or a measure: tests/run.sh NAME. See tests/README.md. The gate runs these:
-tests='docs wrong self show tell host questions plans fonts alike c-host example dump station install stack'
+tests='docs wrong self show tell host questions plans fonts reels alike c-host example dump station install stack'
 set -eu
 cd "$(dirname "$0")/.."
 case ${1:-} in
@@ -81,7 +81,7 @@ show | tell)
     # shellcheck disable=SC2086
     "$out/$1" $RUN "target/bin/$1"
     ;;
-host | questions | plans | fonts)
+host | questions | plans | fonts | reels)
     linked "$1" -C overflow-checks=on
     $RUN "$out/$1"
     ;;

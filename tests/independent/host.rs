@@ -7,7 +7,7 @@ mod report;
 mod rng;
 mod sign;
 
-use inputs::{any_condition, commands, place, reached_condition, some_bytes};
+use inputs::{any_condition, any_started, commands, damage, place, reached_condition, some_bytes};
 use module::*;
 use report::{first_difference, hex, Report};
 use rng::Rng;
@@ -374,15 +374,6 @@ fn order_of_refusals(h: &mut Host) {
     }
 }
 
-fn any_started(rng: &mut Rng) -> Half {
-    loop {
-        let half = inputs::any_half(rng);
-        if half != Half::Nothing {
-            return half;
-        }
-    }
-}
-
 fn wrong_lengths(h: &mut Host) {
     let block = rich().to_block();
     for block_len in [0, 1, 2, 3, 256, 510, 511, 512, 513, 514, 1024] {
@@ -500,22 +491,6 @@ fn random_runs(h: &mut Host, cases: usize) {
         odd_length(&mut t, 30, 0, &mut h.rng);
         odd_length(&mut block, 1_100, 0, &mut h.rng);
         h.run(&block, &t, &bytes);
-    }
-}
-
-/// Changes up to three bytes, and mostly puts the check right again.
-fn damage(block: &mut [u8], rng: &mut Rng) {
-    for _ in 0..1 + rng.below(3) {
-        let i = match rng.below(4) {
-            0 => rng.below(24),
-            1 => 104 + rng.below(96),
-            2 => 24 + rng.below(80),
-            _ => rng.below(512),
-        };
-        block[i] = if rng.once_in(2) { rng.byte() } else { rng.below(8) as u8 };
-    }
-    if !rng.once_in(5) {
-        seal(block);
     }
 }
 

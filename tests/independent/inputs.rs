@@ -1,7 +1,7 @@
-//! Random inputs: byte strings that a host could send, and conditions that a module could be in.
+//! Random inputs: byte strings that a host could send, conditions that a module could be in, and damage to a block.
 #![allow(dead_code)]
 
-use crate::module::{Condition, Half, User, CELLS};
+use crate::module::{seal, Condition, Half, User, CELLS};
 use crate::rng::Rng;
 
 /// What a string of commands is mostly made of.
@@ -218,6 +218,16 @@ pub fn any_half(rng: &mut Rng) -> Half {
     }
 }
 
+/// A half-received command of any kind.
+pub fn any_started(rng: &mut Rng) -> Half {
+    loop {
+        let half = any_half(rng);
+        if half != Half::Nothing {
+            return half;
+        }
+    }
+}
+
 /// A condition that commands led to from power-up.
 pub fn reached_condition(rng: &mut Rng) -> Condition {
     let mut c = Condition::power_up(rng.below(2) as u8);
@@ -226,6 +236,22 @@ pub fn reached_condition(rng: &mut Rng) -> Condition {
         c.take(b);
     }
     c
+}
+
+/// Changes up to three bytes, and mostly puts the check right again.
+pub fn damage(block: &mut [u8], rng: &mut Rng) {
+    for _ in 0..1 + rng.below(3) {
+        let i = match rng.below(4) {
+            0 => rng.below(24),
+            1 => 104 + rng.below(96),
+            2 => 24 + rng.below(80),
+            _ => rng.below(512),
+        };
+        block[i] = if rng.once_in(2) { rng.byte() } else { rng.below(8) as u8 };
+    }
+    if !rng.once_in(5) {
+        seal(block);
+    }
 }
 
 /// 32,768 characters that can be printed, for the measure.

@@ -1,10 +1,10 @@
-//! The 20x2 display module, written from its papers alone (document 01, the scope, requests W1 to W4 of
+//! The 20x2 display module, written from its papers alone (document 01, the scope, requests W1 to W5 of
 //! document 02, and source 000, the module's specification) and not from the product's code. The product
 //! is compared with it.
 //!
 //! In this order: the condition; what a byte does, with its busy time; the run and its tally; what a
 //! cell shows; the block; the planner of one font; the planner of two fonts, by search; two searches that
-//! confirm the fewest bytes of both; the host calls.
+//! confirm the fewest bytes of both; a reel of pictures; the host calls.
 #![allow(dead_code)]
 
 pub const CELLS: usize = 40;
@@ -15,6 +15,10 @@ pub const LONGEST_RUN: usize = 32_768;
 pub const LIMIT: u64 = 4_000_000_000;
 pub const PLAN_ROOM: usize = 44;
 pub const FONTS_ROOM: usize = 104;
+
+/// The most pictures of a reel, and how many lengths it reports. Where the whole call is refused this number
+/// stands for the picture.
+pub const REEL: usize = 64;
 
 /// The planner's one-byte moves, and ESC: a user character on one of these six stops all planning.
 pub const SINGLE_MOVES: [u8; 5] = [0x08, 0x09, 0x0A, 0x0C, 0x0D];
@@ -1137,6 +1141,43 @@ impl<'a> Search<'a> {
     }
 }
 
+// ------------------------------------------------------------------------------- a reel of pictures
+
+/// All bytes of a reel, laid end to end, and how many of them each picture has.
+#[derive(Debug, PartialEq, Eq)]
+pub struct Reel {
+    pub bytes: Vec<u8>,
+    pub lengths: Vec<usize>,
+}
+
+/// Request W5: the pictures in turn, 40 codes and an asked cursor for each, planned and run one at a time.
+/// Otherwise the first picture that is refused (64 for the whole call), and its refusal.
+pub fn reel(from: &Condition, codes: &[u8], cursors: &[u8], room: usize, moves: &Moves) -> Result<Reel, (usize, u32)> {
+    if codes.len() != CELLS * cursors.len() {
+        return Err((REEL, 1));
+    }
+    if cursors.len() > REEL || !from.well_formed() {
+        return Err((REEL, 3));
+    }
+    if room < PLAN_ROOM * cursors.len() {
+        return Err((REEL, 10));
+    }
+    let mut c = from.clone();
+    let mut reel = Reel {
+        bytes: vec![],
+        lengths: vec![],
+    };
+    for (picture, (wanted, &asked)) in codes.chunks(CELLS).zip(cursors).enumerate() {
+        let wanted = wanted.try_into().expect("40 codes");
+        let bytes = plan(&c, wanted, asked as u32, moves).map_err(|refusal| (picture, refusal))?;
+        // the next plan starts where this one leaves the module
+        c = run(&c, &Tally::ZERO, &bytes).expect("a plan can be run").0;
+        reel.lengths.push(bytes.len());
+        reel.bytes.extend(bytes);
+    }
+    Ok(reel)
+}
+
 // ------------------------------------------------------------------------------------ the host calls
 
 pub fn host_run(block: &mut [u8], tally: &mut [u8], bytes: &[u8]) -> u32 {
@@ -1183,6 +1224,32 @@ fn planned_answer(planned: Result<Vec<u8>, u32>, room: usize, out: &mut [u8]) ->
         Ok(bytes) => {
             out[..bytes.len()].copy_from_slice(&bytes);
             bytes.len() as u32
+        }
+    }
+}
+
+/// Answers all bytes together; or 65,536, plus 256 times the picture (64 for the whole call), plus the refusal.
+/// The lengths are a part of the answer: where 64 of them are lent they are written, whatever the refusal.
+pub fn host_reel(block: &[u8], codes: &[u8], cursors: &[u8], lengths: &mut [u8], out: &mut [u8], moves: &Moves) -> u32 {
+    let right_lengths = block.len() == BLOCK && codes.len() == CELLS * cursors.len() && lengths.len() == REEL;
+    let planned = if right_lengths {
+        Condition::from_block(block)
+            .map_err(|refusal| (REEL, refusal))
+            .and_then(|c| reel(&c, codes, cursors, out.len(), moves))
+    } else {
+        Err((REEL, 1))
+    };
+    if lengths.len() == REEL {
+        lengths.fill(0);
+    }
+    match planned {
+        Err((picture, refusal)) => 65_536 + 256 * picture as u32 + refusal,
+        Ok(reel) => {
+            for (length, &n) in lengths.iter_mut().zip(&reel.lengths) {
+                *length = n as u8;
+            }
+            out[..reel.bytes.len()].copy_from_slice(&reel.bytes);
+            reel.bytes.len() as u32
         }
     }
 }

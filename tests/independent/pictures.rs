@@ -1,6 +1,7 @@
 //! Shared by the tests of the two planners. The product plans a picture, and the bytes are compared with the
 //! independent planner's; run on both interpreters they must show the picture; two searches confirm the
-//! fewest bytes. And what to plan: conditions to start from, and pictures.
+//! fewest bytes. And what to plan, for the test of reels too: conditions to start from, and pictures.
+#![allow(dead_code)]
 
 use crate::inputs;
 use crate::module::*;

@@ -1,5 +1,5 @@
 //! The independent program alone: the fifteen cases of the bench sheet, the sample, and the rules of
-//! document 01 and of requests W1 to W4 that it can be held to by itself. It uses nothing of the product.
+//! document 01 and of requests W1 to W5 that it can be held to by itself. It uses nothing of the product.
 
 mod inputs;
 mod module;
@@ -501,6 +501,161 @@ fn two_fonts_refused(r: &mut Report, moves: &Moves) {
     });
 }
 
+/// The codes and the asked cursors of these pictures, as a reel is lent them.
+fn lent(pictures: &[([u8; CELLS], u8)]) -> (Vec<u8>, Vec<u8>) {
+    let codes = pictures.iter().flat_map(|&(codes, _)| codes).collect();
+    (codes, pictures.iter().map(|&(_, asked)| asked).collect())
+}
+
+/// Reels worked out by hand: the bytes before, from power-up; the pictures; the bytes of each plan.
+fn reels(r: &mut Report, moves: &Moves) {
+    type Example<'a> = (&'a [u8], &'a [([u8; CELLS], u8)], &'a [&'a [u8]]);
+    let blank = [0x20; CELLS];
+    let one = picture(&[(0, 0x41)]);
+    let both = picture(&[(0, 0x41), (1, 0x42)]);
+    let two = picture(&[(0, 0x41), (21, 0x42)]);
+    let user = inputs::define(0x01, [1; 5]);
+    let on_clear = inputs::define(0x0E, [1; 5]);
+    let (full, other) = ([0x41; CELLS], [0x42; CELLS]);
+    // to cell 0 from 5 by 0Ch; from 39 by 09h, which is smaller
+    let longest = |way: u8, codes: &[u8]| [&[way][..], codes, &[0x1B, 0x48, 0x27]].concat();
+    let (first, second, third) = (longest(0x0C, &full), longest(0x09, &other), longest(0x09, &full));
+    let examples: [Example; 9] = [
+        (&[], &[], &[]),
+        // a module that cannot be planned from may well have no pictures
+        (&[0x12, 0x1B], &[], &[]),
+        // the bench sheet's picture, again, and a blank one: the cursor is at 0 already, so the clear is enough
+        (
+            &[],
+            &[(two, 0), (two, 0), (blank, 0)],
+            &[&[0x41, 0x0A, 0x42, 0x0C], &[], &[0x0E]],
+        ),
+        // the cells and the cursor are where the plan before leaves them; the last is as long from a clear, a tie
+        (
+            &[],
+            &[(one, 1), (both, 2), (two, 0)],
+            &[&[0x41], &[0x42], &[0x08, 0x20, 0x08, 0x0A, 0x42, 0x0C]],
+        ),
+        // only the cursor goes on
+        (
+            &[],
+            &[(blank, 20), (blank, 19), (blank, 0)],
+            &[&[0x0A], &[0x1B, 0x48, 0x13], &[0x0C]],
+        ),
+        // Katakana selected: the first picture brings the cells into that font, and there they stay
+        (
+            &[0x19],
+            &[(blank, 0), (picture(&[(0, 0xB1)]), 1), (blank, 1)],
+            &[&[0x0E], &[0xB1], &[0x0E]],
+        ),
+        // a user character below 20h
+        (&user, &[(picture(&[(0, 0x01)]), 1), (blank, 1)], &[&[0x01], &[0x0E]]),
+        // one on 0Eh: nothing clears, not even after it was written
+        (
+            &on_clear,
+            &[(picture(&[(0, 0x0E)]), 1), (blank, 1)],
+            &[&[0x0E], &[0x08, 0x20]],
+        ),
+        // the longest plan, again and again
+        (
+            &[0x1B, 0x48, 0x05],
+            &[(full, 39), (other, 39), (full, 39)],
+            &[&first, &second, &third],
+        ),
+    ];
+    for (before, pictures, plans) in examples {
+        let (c, _) = after(before);
+        let (codes, cursors) = lent(pictures);
+        let made = Reel {
+            bytes: plans.concat(),
+            lengths: plans.iter().map(|bytes| bytes.len()).collect(),
+        };
+        r.cases += 1;
+        let got = reel(&c, &codes, &cursors, PLAN_ROOM * pictures.len(), moves);
+        r.expect(got.as_ref() == Ok(&made), || {
+            format!("a reel, {:02X?} and not {:02X?}", made, got)
+        });
+    }
+    // 64 of the longest fill 2,816 bytes; a byte less is too little room, and 65 are too many
+    let (c, _) = after(&[0x1B, 0x48, 0x05]);
+    let many: Vec<_> = (0..65).map(|i| (if i % 2 == 0 { full } else { other }, 39)).collect();
+    let (codes, cursors) = lent(&many);
+    let got = |n: usize, room: usize| reel(&c, &codes[..CELLS * n], &cursors[..n], room, moves);
+    let mut most = Reel {
+        bytes: [third, second].concat().repeat(32),
+        lengths: vec![44; 64],
+    };
+    most.bytes[0] = 0x0C;
+    let right = most.bytes.len() == 2_816
+        && got(64, 2_816) == Ok(most)
+        && got(64, 2_815) == Err((64, 10))
+        && got(65, 2_860) == Err((64, 3));
+    r.cases += 1;
+    r.expect(right, || "a reel of 64 pictures".to_string());
+}
+
+/// The answers of a reel to a host: the bytes before, from power-up; for each picture its first code and asked cursor;
+/// how many codes are lent beyond or short of 40 for each; how many lengths; the room; the answer and the lengths
+/// that are not 0. (All was 7 before.)
+fn reels_answered(r: &mut Report, moves: &Moves) {
+    type Example<'a> = (&'a [u8], &'a [(u8, u8)], isize, usize, usize, u32, &'a [u8]);
+    const WHOLE: u32 = 65_536 + 256 * 64;
+    let on_move = inputs::define(0x09, [0; 5]);
+    let examples: [Example; 20] = [
+        // 41h is written; nothing; the cursor goes on
+        (&[], &[(0x41, 1), (0x41, 1), (0x41, 0)], 0, 64, 132, 2, &[1, 0, 1]),
+        (&[], &[(0x41, 1), (0x20, 1)], 0, 64, 200, 2, &[1, 1]),
+        (&[], &[], 0, 64, 0, 0, &[]),
+        (&[0x12, 0x1B], &[], 0, 64, 0, 0, &[]),
+        // the whole call
+        (&[], &[(0x41, 1)], 1, 64, 44, WHOLE + 1, &[]),
+        (&[], &[(0x41, 1), (0x41, 1)], -40, 64, 0, WHOLE + 1, &[]),
+        (&[], &[(0x41, 1)], 0, 63, 44, WHOLE + 1, &[]),
+        (&[], &[(0x41, 40)], 0, 65, 0, WHOLE + 1, &[]),
+        (&[], &[], 0, 0, 0, WHOLE + 1, &[]),
+        (&[], &[(0x41, 1); 65], 1, 64, 0, WHOLE + 1, &[]),
+        (&[], &[(0x41, 1); 65], 0, 64, 0, WHOLE + 3, &[]),
+        (&[0x1B], &[(0x00, 40)], 0, 64, 43, WHOLE + 10, &[]),
+        // the first picture, which meets the start condition
+        (&[0x12, 0x1B], &[(0x00, 40)], 0, 64, 44, 65_536 + 3, &[]),
+        (&[0x12, 0x1B], &[(0x00, 39), (0x41, 40)], 0, 64, 88, 65_536 + 6, &[]),
+        (&[0x12], &[(0x00, 39)], 0, 64, 44, 65_536 + 7, &[]),
+        (&on_move, &[(0x00, 39)], 0, 64, 44, 65_536 + 8, &[]),
+        (&on_move, &[(0x09, 39)], 0, 64, 44, 65_536 + 8, &[]),
+        // the first that would be refused, and of its refusals the lowest
+        (&[], &[(0x41, 1), (0x00, 1), (0x41, 40)], 0, 64, 132, 65_536 + 256 + 9, &[]),
+        (&[], &[(0x41, 1), (0x41, 255), (0x00, 1)], 0, 64, 132, 65_536 + 256 + 3, &[]),
+        (&[], &[(0x41, 1), (0x42, 1), (0x00, 40)], 0, 64, 132, 65_536 + 512 + 3, &[]),
+    ];
+    for (before, pictures, odd, count, room, answer, plans) in examples {
+        let (c, _) = after(before);
+        let whole = |&(code, asked): &(u8, u8)| (picture(&[(0, code)]), asked);
+        let (mut codes, cursors) = lent(&pictures.iter().map(whole).collect::<Vec<_>>());
+        codes.resize((codes.len() as isize + odd) as usize, 0x41);
+        let (mut lengths, mut out) = (vec![7; count], vec![7; room]);
+        let got = host_reel(&c.to_block(), &codes, &cursors, &mut lengths, &mut out, moves);
+        let mut right = vec![if count == 64 { 0 } else { 7 }; count];
+        right[..plans.len()].copy_from_slice(plans);
+        let written = if got < 65_536 { got as usize } else { 0 };
+        let kept = out[written..].iter().all(|&x| x == 7);
+        r.cases += 1;
+        r.expect(got == answer && lengths == right && kept, || {
+            format!("a reel after {}: answer {} and not {}", hex(before), answer, got)
+        });
+    }
+    // a damaged block is named after each wrong length and before all else
+    let mut block = Condition::power_up(0).to_block();
+    block[511] ^= 1;
+    for (count, pictures, refusal) in [(64, 65, 2), (63, 65, 1)] {
+        let (codes, cursors) = (vec![0; CELLS * pictures], vec![40; pictures]);
+        let got = host_reel(&block, &codes, &cursors, &mut vec![7; count], &mut [], moves);
+        r.cases += 1;
+        r.expect(got == WHOLE + refusal, || {
+            format!("a reel from a damaged block: answer {}", got)
+        });
+    }
+}
+
 /// Every byte keeps a condition well formed; blocks read back the same; runs in pieces end alike.
 fn conditions(r: &mut Report) {
     let mut rng = Rng::new(1);
@@ -549,8 +704,10 @@ fn main() {
     two_fonts(&mut r, &moves);
     from_a_clear(&mut r, &moves);
     two_fonts_refused(&mut r, &moves);
+    reels(&mut r, &moves);
+    reels_answered(&mut r, &moves);
     conditions(&mut r);
     // the bench sheet, the sample, examples by hand, ways, plans of two fonts, plans from a clear, refusals,
-    // conditions and each byte on each
-    r.end("self", 15 + 2 + 31 + 1_603 + 2_017 + 12 + 15 + 3_000 + 768_000);
+    // reels and their answers, conditions and each byte on each
+    r.end("self", 15 + 2 + 31 + 1_603 + 2_017 + 12 + 15 + 10 + 22 + 3_000 + 768_000);
 }

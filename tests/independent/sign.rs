@@ -33,6 +33,18 @@ extern "C" {
         out: *mut u8,
         out_len: usize,
     ) -> u32;
+    fn sign_reel(
+        block: *const u8,
+        block_len: usize,
+        codes: *const u8,
+        codes_len: usize,
+        cursors: *const u8,
+        cursors_len: usize,
+        lengths: *mut u8,
+        lengths_len: usize,
+        out: *mut u8,
+        out_len: usize,
+    ) -> u32;
     fn sign_power_up(font: u32, block: *mut u8, block_len: usize) -> u32;
     fn sign_view(block: *const u8, block_len: usize, position: u32) -> u32;
     fn sign_dot(block: *const u8, block_len: usize, code: u32, k: u32) -> u32;
@@ -88,6 +100,23 @@ pub fn plan_either(block: &[u8], codes: &[u8], fonts: Option<&[u8]>, cursor: u32
     match fonts {
         Some(fonts) => plan_fonts(block, codes, fonts, cursor, out),
         None => plan(block, codes, cursor, out),
+    }
+}
+
+pub fn reel(block: &[u8], codes: &[u8], cursors: &[u8], lengths: &mut [u8], out: &mut [u8]) -> u32 {
+    unsafe {
+        sign_reel(
+            block.as_ptr(),
+            block.len(),
+            codes.as_ptr(),
+            codes.len(),
+            cursors.as_ptr(),
+            cursors.len(),
+            lengths.as_mut_ptr(),
+            lengths.len(),
+            out.as_mut_ptr(),
+            out.len(),
+        )
     }
 }
 
