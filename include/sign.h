@@ -1,23 +1,25 @@
 /* sign.h: a 20x2 VFD sign (module CU20029-KTW220A) for a C or C++ host. Link with libsign.a, which
-   is x86-64 code. examples/host.c is the smallest host, examples/station.c one that survives a loss
-   of power; docs/HOST.md says what to do in which order, and what to do about each refusal.
+   is x86-64 code. examples/host.c is the smallest host, examples/lounge.c one with a loop of
+   pictures, examples/station.c one that survives a loss of power; docs/HOST.md says what to do in
+   which order, and what to do about each refusal.
 
    The sign is a block of 512 bytes that the host keeps and lends. sign_power_up makes one, sign_run
    does to it what the module does with bytes that are sent to it, and sign_plan works out the
    fewest bytes that change what it shows into a wanted picture; sign_plan_fonts takes a font for
-   each cell as well. sign_view, sign_dot, sign_underline and sign_lit say what the glass shows.
+   each cell as well, and sign_reel takes up to 64 pictures that come in turn. sign_view, sign_dot,
+   sign_underline and sign_lit say what the glass shows.
 
    Run first, send afterwards: bytes that sign_run refuses must not go to the wire, because the
    module would carry them out and the block would not follow.
 
    Every call takes any bytes: nothing in a buffer can make it fail otherwise than by a refusal, and
-   a refused call changes nothing that was lent to it. It looks at a buffer only within the length
-   given. What the host has to see to: each pointer is to that many bytes of its own memory (no
+   a refused call changes nothing that was lent to it (but for the 64 lengths of sign_reel, which are
+   part of its answer and are then all 0). It looks at a buffer only within the length given. What the host has to see to: each pointer is to that many bytes of its own memory (no
    NULL, not even with length 0), and the buffers of one call do not overlap.
 
    There is no state outside the buffers and no allocation: calls on different buffers may run at
-   the same time on any threads. A buffer that is only read (bytes, codes, fonts, the block of a
-   plan or of a question) may be shared by such calls. */
+   the same time on any threads. A buffer that is only read (bytes, codes, fonts, cursors, the block
+   of a plan, of a reel or of a question) may be shared by such calls. */
 
 #ifndef SIGN_H
 #define SIGN_H
@@ -31,13 +33,15 @@ extern "C" {
 
 /* The version of the library that this header belongs to. */
 #define SIGN_VERSION_MAJOR 2
-#define SIGN_VERSION_MINOR 2
+#define SIGN_VERSION_MINOR 3
 
 #define SIGN_BLOCK      512   /* bytes of a block */
 #define SIGN_TALLY      16    /* bytes of a tally */
 #define SIGN_CELLS      40    /* cells: 0 to 19 top line, 20 to 39 bottom line */
 #define SIGN_ROOM       44    /* bytes that sign_plan wants room for */
 #define SIGN_FONTS_ROOM 104   /* bytes that sign_plan_fonts wants room for */
+#define SIGN_REEL       64    /* most pictures in one reel, and the bytes of its lengths; the output of
+                                 a reel wants SIGN_ROOM for each picture */
 #define SIGN_MOST       32768 /* most bytes in one run */
 
 /* Stack that a call needs on x86-64, in bytes, from its return address down, with all that it calls
@@ -45,8 +49,9 @@ extern "C" {
    these lines with the compiled code.
      sign_power_up   664
      sign_run        1,272
-     sign_plan       2,300
+     sign_plan       2,405
      sign_plan_fonts 2,348
+     sign_reel       2,741
      sign_view       656
      sign_dot        560
      sign_underline  544
@@ -56,16 +61,18 @@ extern "C" {
    besides. In a kernel or on bare metal the processor itself would write an interrupt's frame into
    the red zone: give interrupts a stack of their own (IST), or keep them off during a call. */
 
-/* Refusals: the lowest that holds is given. sign_run and sign_power_up answer the number itself, a
-   plan 256 plus the number, a question 65,536 plus the number. */
+/* Refusals: the lowest that holds is given (sign_reel looks at the whole call before any picture).
+   sign_run and sign_power_up answer the number itself, a plan 256 plus the number, a question 65,536
+   plus the number, a reel 65,536 plus 256 times the picture plus the number. */
 enum sign_refusal {
     SIGN_ACCEPTED      = 0,
-    SIGN_WRONG_LENGTH  = 1,  /* block not 512 bytes, tally not 16, codes not 40, fonts not 40 */
+    SIGN_WRONG_LENGTH  = 1,  /* block not 512 bytes, tally not 16, codes not 40, fonts not 40; reel:
+                                codes not 40 for each cursor, lengths not 64 */
     SIGN_DAMAGED       = 2,  /* the block's bytes 0-2 or its check differ: no block, or damaged */
     SIGN_OUT_OF_RANGE  = 3,  /* the block is no condition that a sign can be in; a tally number is
                                 above 4,000,000,000; the asked cursor or position is above 39; a
                                 font is above 1; a dot is not 1 to 35; no user character has the
-                                code */
+                                code; a reel has more than 64 pictures */
     SIGN_TOO_LONG      = 4,  /* more than 32,768 bytes in one run */
     SIGN_TALLY_FULL    = 5,  /* a tally number would pass 4,000,000,000 */
     SIGN_HALF_RECEIVED = 6,  /* plan: a command is half received */
@@ -74,10 +81,12 @@ enum sign_refusal {
                                 sign_plan_fonts: or on 18h, 19h or 1Ah */
     SIGN_NO_CHARACTER  = 9,  /* plan: a wanted code below 20h has no user character */
     SIGN_NO_ROOM       = 10  /* the output is under 44 bytes for sign_plan, 104 for sign_plan_fonts,
-                                512 for a block */
+                                44 for each picture of sign_reel, 512 for a block */
 };
 #define SIGN_REFUSED       256   /* a plan's refusal is answered as this plus its number */
 #define SIGN_ASKED_REFUSED 65536 /* a question's refusal is answered as this plus its number */
+#define SIGN_REEL_REFUSED  65536 /* a reel that answers this or more is refused: sign_reel_picture and
+                                    sign_reel_refusal take the answer apart */
 
 /* Places in a block that a host may read (never write: the check would no longer fit). */
 #define SIGN_CURSOR_AT       3   /* the cursor, 0 to 39 */
@@ -149,6 +158,28 @@ uint32_t sign_plan_fonts(const uint8_t *block, size_t block_len,
                          const uint8_t *fonts, size_t fonts_len, uint32_t cursor,
                          uint8_t *out, size_t out_len);
 
+/* Plans up to 64 pictures that come in turn, each in the selected font and from where the one before
+   leaves the sign. Picture k, from 0, is the 40 codes from 40 * k on, and its asked cursor is
+   cursors[k]; so codes has 40 bytes for each cursor. Writes their plans to out, end to end: the same
+   bytes that sign_plan gives one at a time, each plan run before the next is asked for. lengths, of
+   64 bytes, gets the length of each plan, and 0 beyond the pictures. The block stays as it is: when
+   a picture's turn comes give its bytes to sign_run, send them where it answers 0, and send nothing
+   else in between (docs/HOST.md, A loop of pictures).
+   Answers how many bytes were written, all together (0: nothing is to be sent), and nothing else of
+   out changes; or 65,536 plus 256 times the picture plus the refusal, and then out did not change
+   and the lengths are all 0, as long as there are 64. First, with 64 for the picture, what is refused
+   of the whole call: 1, 2, 3 or 10. Then the first picture that would be refused, and what sign_plan
+   refuses it by: 3, 6, 7, 8 or 9. */
+uint32_t sign_reel(const uint8_t *block, size_t block_len,
+                   const uint8_t *codes, size_t codes_len,
+                   const uint8_t *cursors, size_t cursors_len,
+                   uint8_t *lengths, size_t lengths_len,
+                   uint8_t *out, size_t out_len);
+
+/* Of a refused reel's answer: the picture, 64 for the whole call, and the refusal. */
+static inline uint32_t sign_reel_picture(uint32_t answer) { return (answer - SIGN_REEL_REFUSED) / 256; }
+static inline uint32_t sign_reel_refusal(uint32_t answer) { return (answer - SIGN_REEL_REFUSED) % 256; }
+
 /* What a cell shows (sign_view): one of these, plus the code (0 to 255) for a user character and
    for a built-in one. A blank cell and the Euro mark carry no code. */
 enum sign_shows {
@@ -184,7 +215,7 @@ static inline uint32_t sign_tally_number(const uint8_t *tally, enum sign_number 
     return p[0] + 0x100u * p[1] + 0x10000u * p[2] + 0x1000000u * p[3];
 }
 
-/* A refusal in words: the number itself, without the 256 or 65,536. */
+/* A refusal in words: the number itself, without the 256 or 65,536 (of a reel, sign_reel_refusal). */
 static inline const char *sign_refusal_text(uint32_t refusal) {
     switch (refusal) {
     case SIGN_ACCEPTED:      return "accepted";

@@ -1,5 +1,5 @@
-/* The fifteen cases of the bench sheet (document 01 and request W3), pictures of two fonts (request W1), one refusal of
-   each number, a wrong length that is refused unread, the places and names of sign.h, and what docs/HOST.md advises (what ends half a command,
+/* The fifteen cases of the bench sheet (document 01 and request W3), pictures of two fonts (request W1), a reel
+   (request W5), one refusal of each number, a wrong length that is refused unread, the places and names of sign.h, and what docs/HOST.md advises (what ends half a command,
    recovery), through the C functions. Prints ok, or what failed. */
 
 #include <stdio.h>
@@ -256,6 +256,55 @@ static void fonts_refusals(void) {
     check("fonts: enough room", plan_fonts(0) < 256);
 }
 
+/* Three pictures in turn: case 11 of the bench sheet, the same with the cursor at 21, and a blank one. */
+static void reels(void) {
+    static const uint8_t plans[] = {0x41, 0x0A, 0x42, 0x0C, 0x09, 0x0A, 0x0E};
+    uint8_t codes[3 * SIGN_CELLS], cursors[3] = {0, 21, 21}, lengths[SIGN_REEL], room[3 * SIGN_ROOM + 1], zero[SIGN_REEL] = {0};
+    uint8_t kept[SIGN_BLOCK];
+#define REEL(pictures, block_len, codes_len, lengths_len, out_len) (memset(lengths, 7, sizeof lengths), memset(room, 0xEE, sizeof room), \
+    sign_reel(block, block_len, codes, codes_len, cursors, pictures, lengths, lengths_len, room, out_len))
+    memset(codes, 0x20, sizeof codes);
+    codes[0] = codes[SIGN_CELLS] = 0x41;
+    codes[21] = codes[SIGN_CELLS + 21] = 0x42;
+    after(want, 0);
+    memcpy(kept, block, sizeof kept);
+    uint32_t all = REEL(3, 512, 120, 64, 132);
+    check("reel", all == sizeof plans && memcmp(room, plans, sizeof plans) == 0 && room[all] == 0xEE);
+    check("reel: lengths", lengths[0] == 4 && lengths[1] == 2 && lengths[2] == 1 && memcmp(lengths + 3, zero, 61) == 0);
+    check("reel: the block stays", memcmp(block, kept, sizeof kept) == 0);
+    size_t at = 0;
+    for (int k = 0; k < 3; k++) { /* by the lengths, each picture comes in its turn */
+        check("reel: run", run(room + at, lengths[k]) == 0);
+        at += lengths[k];
+        check("reel: shown", memcmp(block + SIGN_CODES_AT, codes + k * SIGN_CELLS, SIGN_CELLS) == 0 && cursor() == cursors[k]);
+    }
+    after(want, 0);
+    check("reel: no pictures", REEL(0, 512, 0, 64, 0) == 0 && memcmp(lengths, zero, 64) == 0);
+    /* each number where much that comes behind it is wrong too; the lengths are 0 whatever it is, as long as there are 64 */
+    cursors[0] = 40;
+    codes[SIGN_CELLS] = 0x1F;
+    block[500] = 1;
+    all = REEL(3, 512, 119, 64, 131);
+    check("reel 1", sign_reel_picture(all) == SIGN_REEL && sign_reel_refusal(all) == SIGN_WRONG_LENGTH && memcmp(lengths, zero, 64) == 0);
+    check("reel 1: block", REEL(3, 511, 120, 64, 131) == all && memcmp(lengths, zero, 64) == 0);
+    check("reel 1: lengths", REEL(3, 512, 120, 63, 131) == all && lengths[0] == 7 && REEL(3, 512, 120, 65, 131) == all && lengths[0] == 7);
+    check("reel 2", REEL(3, 512, 120, 64, 131) == all - 1 + SIGN_DAMAGED && memcmp(lengths, zero, 64) == 0);
+    block[500] = 0;
+    check("reel 10", REEL(3, 512, 120, 64, 131) == all - 1 + SIGN_NO_ROOM && memcmp(lengths, zero, 64) == 0);
+    all = REEL(3, 512, 120, 64, 132);
+    check("reel 3", sign_reel_picture(all) == 0 && sign_reel_refusal(all) == SIGN_OUT_OF_RANGE && memcmp(lengths, zero, 64) == 0);
+    cursors[0] = 0;
+    all = REEL(3, 512, 120, 64, 132);
+    check("reel 9", sign_reel_picture(all) == 1 && sign_reel_refusal(all) == SIGN_NO_CHARACTER && memcmp(lengths, zero, 64) == 0);
+    check("reel: out and block stay", room[0] == 0xEE && memcmp(block, kept, sizeof kept) == 0);
+    AFTER(0x12);
+    check("reel 7", REEL(3, 512, 120, 64, 132) == SIGN_REEL_REFUSED + SIGN_WRONG_MODE);
+    AFTER(0x12, 0x1B);
+    check("reel 6", REEL(3, 512, 120, 64, 132) == SIGN_REEL_REFUSED + SIGN_HALF_RECEIVED && REEL(0, 512, 0, 64, 0) == 0);
+    AFTER(0x1B, 0x43, 0x09, 0, 0, 0, 0, 0);
+    check("reel 8", REEL(3, 512, 120, 64, 132) == SIGN_REEL_REFUSED + SIGN_USER_ON_MOVE);
+}
+
 static void refusals(void) {
     static uint8_t longest[SIGN_MOST + 1];
     uint8_t kept[SIGN_BLOCK], zero[SIGN_TALLY] = {0};
@@ -438,6 +487,8 @@ static void unread(void) {
     check("plan unread", sign_plan(nowhere, 513, want, sizeof want, 0, out, sizeof out) == SIGN_REFUSED + SIGN_WRONG_LENGTH);
     check("fonts unread", sign_plan_fonts(nowhere, 4096, want, sizeof want, fonts, sizeof fonts, 0, out, sizeof out)
         == SIGN_REFUSED + SIGN_WRONG_LENGTH);
+    check("reel unread", sign_reel(nowhere, 511, want, sizeof want, fonts, 1, out, SIGN_REEL, out + SIGN_REEL, 0)
+        == SIGN_REEL_REFUSED + 256 * SIGN_REEL + SIGN_WRONG_LENGTH);
     check("questions unread", sign_view(nowhere, 200, 0) == SIGN_ASKED_REFUSED + SIGN_WRONG_LENGTH
         && sign_dot(nowhere, 511, 0x41, 1) == SIGN_ASKED_REFUSED + SIGN_WRONG_LENGTH
         && sign_underline(nowhere, 513, 0x41) == SIGN_ASKED_REFUSED + SIGN_WRONG_LENGTH
@@ -453,6 +504,7 @@ int main(int argc, char **argv) {
     from_a_clear();
     fonts_refusals();
     memset(want, 0x20, sizeof want);
+    reels();
     refusals();
     unread();
     places();

@@ -97,10 +97,12 @@ c-host)
     [ "$said" = ok ]
     ;;
 example)
-    c_program example examples/host.c
-    $RUN "$out/example" >"$out/example.txt"
-    cat "$out/example.txt"
-    diff examples/host.txt "$out/example.txt"
+    for name in host lounge; do
+        c_program "example-$name" "examples/$name.c"
+        $RUN "$out/example-$name" >"$out/example.txt"
+        cat "$out/example.txt"
+        diff "examples/$name.txt" "$out/example.txt"
+    done
     # the lines in C that README and docs/HOST.md show; `wire_us` and `widen` of the latter are run
     fence README.md c >"$out/readme.c"
     {
@@ -174,7 +176,7 @@ costs)
     c_program costs tests/costs.c
     choose_counter "$out/costs" 0 1
     # between 10 and 90 calls, so that nothing of the program's start and end is in it
-    for kind in 0 1 2 3 4 5 6 7 8 9 10 11 12 13; do
+    for kind in 0 1 2 3 4 5 6 7 8 9 10 11 12 13 14 15 16 17; do
         ninety=$(count "$out/costs" "$kind" 90)
         ten=$(count "$out/costs" "$kind" 10)
         echo "costs: kind $kind, $($RUN "$out/costs" "$kind" 1): $(((ninety - ten) / 80)) instructions"

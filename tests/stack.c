@@ -7,11 +7,11 @@
 #include <string.h>
 #include "sign.h"
 
-uint64_t call_on(uint8_t *top, uintptr_t function, const uint64_t argument[9]);
+uint64_t call_on(uint8_t *top, uintptr_t function, const uint64_t argument[10]);
 __asm__(".text\n"
         ".globl call_on, memcpy, memset\n"
         "call_on: push %rbp\n mov %rsp, %rbp\n"
-        "  lea -8(%rdi), %rsp\n pushq 64(%rdx)\n pushq 56(%rdx)\n pushq 48(%rdx)\n" /* 32 bytes, as aligned as the top is */
+        "  mov %rdi, %rsp\n pushq 72(%rdx)\n pushq 64(%rdx)\n pushq 56(%rdx)\n pushq 48(%rdx)\n" /* 32 bytes, as aligned as the top is */
         "  mov %rsi, %rax\n mov %rdx, %r10\n"
         "  mov 0(%r10), %rdi\n mov 8(%r10), %rsi\n mov 16(%r10), %rdx\n"
         "  mov 24(%r10), %rcx\n mov 32(%r10), %r8\n mov 40(%r10), %r9\n"
@@ -20,7 +20,7 @@ __asm__(".text\n"
         "memcpy: mov %rdi, %rax\n mov %rdx, %rcx\n rep movsb\n ret\n"
         "memset: mov %rdi, %r8\n mov %esi, %eax\n mov %rdx, %rcx\n rep stosb\n mov %r8, %rax\n ret\n");
 
-enum { POWER_UP, RUN, PLAN, PLAN_FONTS, VIEW, DOT, UNDERLINE, LIT, ENTRIES };
+enum { POWER_UP, RUN, PLAN, PLAN_FONTS, REEL, VIEW, DOT, UNDERLINE, LIT, ENTRIES };
 static struct {
     const char *name;
     uintptr_t function;
@@ -32,6 +32,7 @@ static struct {
     {"sign_run", (uintptr_t)sign_run, 1, {0}, 0},
     {"sign_plan", (uintptr_t)sign_plan, SIGN_REFUSED, {0}, 0},
     {"sign_plan_fonts", (uintptr_t)sign_plan_fonts, SIGN_REFUSED, {0}, 0},
+    {"sign_reel", (uintptr_t)sign_reel, SIGN_REEL_REFUSED, {0}, 0},
     {"sign_view", (uintptr_t)sign_view, SIGN_ASKED_REFUSED, {0}, 0},
     {"sign_dot", (uintptr_t)sign_dot, SIGN_ASKED_REFUSED, {0}, 0},
     {"sign_underline", (uintptr_t)sign_underline, SIGN_ASKED_REFUSED, {0}, 0},
@@ -41,7 +42,7 @@ static struct {
 static uint8_t stack[8192] __attribute__((aligned(16)));
 static uint8_t paint; /* another one in the second round: the deepest byte may be left with the value of the paint */
 
-static uint32_t call(int which, const uint64_t argument[9]) {
+static uint32_t call(int which, const uint64_t argument[10]) {
     memset(stack, paint, sizeof stack);
     uint32_t answer = (uint32_t)call_on(stack + sizeof stack, entry[which].function, argument);
     size_t at = 0;
@@ -51,17 +52,25 @@ static uint32_t call(int which, const uint64_t argument[9]) {
     entry[which].calls[answer >= entry[which].refused]++;
     return answer;
 }
-#define CALL(which, ...) call(which, (const uint64_t[9]){__VA_ARGS__})
+#define CALL(which, ...) call(which, (const uint64_t[10]){__VA_ARGS__})
 #define AT(buffer) ((uintptr_t)(buffer))
 
 static uint8_t block[SIGN_BLOCK], tally[SIGN_TALLY], codes[SIGN_CELLS], fonts[SIGN_CELLS], out[SIGN_FONTS_ROOM];
 static uint8_t bytes[SIGN_MOST + 1];
+enum { PICTURES = 3 };
+static uint8_t reel[PICTURES * SIGN_CELLS], cursors[PICTURES], lengths[SIGN_REEL], plans[PICTURES * SIGN_ROOM];
 
 /* Every function on the block as it is, with lengths that are right or, for `wrong`, one of them wrong. */
 static void ask(uint32_t cursor, int wrong) {
     uint64_t whole = SIGN_BLOCK - (wrong == 1), cells = SIGN_CELLS - (wrong == 2), room = SIGN_FONTS_ROOM - (wrong == 3);
     CALL(PLAN, AT(block), whole, AT(codes), cells, cursor, AT(out), wrong == 3 ? SIGN_ROOM - 1 : room);
     CALL(PLAN_FONTS, AT(block), whole, AT(codes), SIGN_CELLS, AT(fonts), cells, cursor, AT(out), room);
+    /* the picture, as it stands and turned round, and the picture again */
+    for (int i = 0; i < SIGN_CELLS; i++) reel[i] = reel[2 * SIGN_CELLS + i] = codes[i], reel[SIGN_CELLS + i] = codes[SIGN_CELLS - 1 - i];
+    memset(cursors, (int)cursor, sizeof cursors);
+    for (uint64_t n = 0; n <= PICTURES; n += PICTURES)
+        CALL(REEL, AT(block), whole, AT(reel), n * cells, AT(cursors), n, AT(lengths), SIGN_REEL - (wrong == 1), AT(plans),
+             n * SIGN_ROOM - (n != 0 && wrong == 3));
     for (uint64_t i = 0; i <= SIGN_CELLS; i++) CALL(VIEW, AT(block), whole, i);
     for (uint64_t code = 0; code <= 256; code++) {
         CALL(DOT, AT(block), whole, code, (code + cursor) % 37);

@@ -712,6 +712,23 @@ fn order_of_refusals(r: &mut Reels) {
     }
 }
 
+/// More than 64 pictures, also so many that a byte would take them for fewer.
+fn too_many(r: &mut Reels) {
+    for pictures in [65, 66, 127, 128, 255, 256, 257, 300, 320, 512, 65_536 + 1] {
+        let c = Condition::power_up(0);
+        let mut call = Call::new(&c, &[([0x41; CELLS], 0)]);
+        call.codes.resize(CELLS * pictures, 0x41);
+        call.cursors.resize(pictures, 0);
+        for room in [PLAN_ROOM * pictures, 0] {
+            call.room = room;
+            let answer = r.compare(&call);
+            r.report.expect(answer == 65_536 + 256 * 64 + 3, || {
+                format!("{} pictures: answer {}", pictures, answer)
+            });
+        }
+    }
+}
+
 /// Any start, any pictures, with now and then something wrong.
 fn random_reels(r: &mut Reels, cases: usize) {
     for i in 0..cases {
@@ -838,13 +855,15 @@ fn giant_length(r: &mut Reels, giant: &mut [u8]) {
         let a = sign::reel(&block, codes, giant, &mut lengths, &mut out);
         expect("cursors", a, refusal, lengths == [0; REEL]);
     }
+    giant[..1_000].fill(7);
     let a = sign::reel(&block, &codes, &cursors, giant, &mut out);
     expect(
         "lengths",
         a,
         refusal,
-        giant[..1_000] == [0; 1_000] && out == [0xEE; PLAN_ROOM],
+        giant[..1_000] == [7; 1_000] && out == [0xEE; PLAN_ROOM],
     );
+    giant[..1_000].fill(0);
     let a = sign::reel(&block, &codes, &cursors, &mut lengths, giant);
     let written = giant[..40] == codes && giant[40..43] == [0x1B, 0x48, 39] && giant[43..1_000] == [0; 957];
     let right = lengths[0] == 43 && lengths[1..] == [0; REEL - 1];
@@ -921,10 +940,11 @@ fn main() {
     damaged_blocks(&mut r);
     each_number(&mut r);
     each_picture(&mut r);
+    too_many(&mut r);
     order_of_refusals(&mut r);
     random_reels(&mut r, 20_000);
     threads(&mut r);
     giant_lengths(&mut r);
     all_met(&mut r);
-    r.report.end("reels", 39_900);
+    r.report.end("reels", 39_922);
 }

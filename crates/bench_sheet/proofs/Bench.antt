@@ -24,6 +24,8 @@ use Rattle.bench_sheet.specs.Sheet.{AllHold, dotsUpTo, sheet}
 use Rattle.bench_sheet.specs.FontsSheet.{fontsSheet}
 use Rattle.bench_sheet.specs.ClearSheet.{clearSheet}
 use Rattle.bench_sheet.specs.TallySheet.{AllCount, tallySheet}
+use Rattle.reel.specs.Reel.{picturesOf, plansOf, firstRefused, wholeRefusal, stopOf}
+use Rattle.bench_sheet.specs.ReelSheet.{reelSheet}
 
 pub bench : AllHold sheet
 unfolding powerUp runOf stepAt isChar isUser foundIn limitOf roomOf writeOf pushOf rightOf scrollOf scrolled shifted lineStart
@@ -85,3 +87,11 @@ unfolding powerUp stepAt isChar isUser foundIn limitOf roomOf writeOf rightOf co
     controlBusy escapeBusy rightScrolls downScrolls lineShifts wellFormed numbersGood scrollGood allUpTo usersGood pendingGood
     escapeGood absent withinLimit tallied runRefusal runAnswer
 tally-bench = ((refl, refl), ((refl, refl), ((refl, refl), tt)))
+
+-- and the cases for reels
+pub reel-bench : AllHold reelSheet
+unfolding powerUp runOf stepAt isChar isUser foundIn limitOf roomOf writeOf rightOf controlOf leftOf downOf returnOf clearOf
+    wellFormed numbersGood scrollGood allUpTo usersGood absent pendingGood escapeGood wrong left next down move near1 near2 dist
+    lineStart leaves firstByte pathOf path flagged planOf plan clearWins eitherBy onMove lacks someLacks refusalBy planRefusal
+    picturesOf plansOf firstRefused wholeRefusal stopOf
+reel-bench = ((refl, refl), (refl, (refl, (refl, ((refl, refl), tt)))))

@@ -2,3 +2,4 @@ pub mod Sheet
 pub mod FontsSheet
 pub mod ClearSheet
 pub mod TallySheet
+pub mod ReelSheet

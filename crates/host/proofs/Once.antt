@@ -48,11 +48,6 @@ module _ (b : List ℕ) (g : Outcome) (o : g ≡ openedOf b) where
     unfolding openedOf
     in-block = ap (λ (o : Outcome). o .condition) o ∙ rw (eq-eqb (damageOf b) 0 whole)
 
-    -- one that is not, and holds a condition that is not well formed, is refused by 3
-    pub unformed-by : (n : ℕ) → wellFormed (conditionIn b) ≡ false → hostRefusalBy true b n ≡ 3
-    unfolding hostRefusalBy
-    unformed-by n w = rw (read-by b, whole, w)
-
     -- one that is not is refused as the call refuses, which gives 3 where the condition is not well formed: the order is the same
     pub left-to : (n : ℕ) → (wellFormed (conditionIn b) ≡ false → n ≡ 3) → hostRefusalBy true b n ≡ n
     unfolding hostRefusalBy

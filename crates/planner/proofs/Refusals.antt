@@ -13,10 +13,10 @@ use Rattle.users.specs.declared.Users.{Users}
 use Rattle.users.specs.Users.{isUser}
 use Rattle.condition.specs.declared.Condition.{Condition}
 use Rattle.condition.specs.Condition.{idle, wellFormed, allUpTo}
-use Rattle.condition.specs.Bytes.{isChar}
+use Rattle.condition.specs.Bytes.{isChar, runOf}
 use Rattle.condition.specs.Steps.{eitherStart}
 use Rattle.condition.proofs.Characters.{plain-char, user-char, no-char}
-use Rattle.condition.proofs.Good.{good, formed}
+use Rattle.condition.proofs.Good.{good, formed, Sized}
 use Rattle.condition.proofs.Kept.{cells-kept, cursor-kept}
 use Rattle.condition.proofs.Ranges.{up-to-at, up-to-replicate}
 use Rattle.moves.specs.Moves.{any, moves, numbersOf, Numbers}
@@ -191,8 +191,13 @@ fonts-plan-delivers c wanted fonts asked room e lc lf =
     let t = fonts-accepted c wanted fonts asked room e .0 in
     either-fonts-deliver c wanted fonts asked (t .codes .plannable lc lf) (t .switchable)
 
--- What an accepted plan leaves is the picture, and from there the planner refuses what it refused before: neither the cells nor the
--- cursor decide a refusal, as long as the condition is well formed
+-- what an accepted plan leaves is the picture
+pub leaves : (c : Condition) (wanted : List ℕ) (asked room : ℕ) → planRefusal c wanted asked room ≡ 0 → Sized c
+    → runOf c (eitherPlan c wanted asked) ≡ pictured c wanted asked
+leaves c wanted asked room e s = plan-delivers c wanted asked room e (s .codes-40) (s .fonts-40) .gives
+
+-- and from there the planner refuses what it refused before: neither the cells nor the cursor decide a refusal, as long as the
+-- condition is well formed
 pub left-alike : (c : Condition) (wanted : List ℕ) (asked room : ℕ) → planRefusal c wanted asked room ≡ 0
     → (w : List ℕ) (a r : ℕ) → planRefusal (pictured c wanted asked) w a r ≡ planRefusal c w a r
 unfolding planRefusal refusalBy

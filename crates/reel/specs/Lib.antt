@@ -1,1 +1,2 @@
 pub mod Reel
+pub mod Start

@@ -18,21 +18,28 @@ use Rattle.reel.specs.declared.Reeled.{Reeled}
 
 -- One at a time -------------------------------------------------------------------------------------------------------------------
 
--- Of the pictures that are left, the first has the first 40 codes and the first cursor; c is where the plan before leaves the module
+-- a picture: its codes and its asked cursor
+pub record Picture : Type 0 where
+  pub wanted : List ℕ
+  pub asked : ℕ
 
--- the plan of the first picture
-abbrev pub firstPlan : Condition → List ℕ → ℕ → List ℕ
-firstPlan c codes asked = eitherPlan c (take 40 codes) asked
+-- the pictures: 40 codes for each asked cursor
+unfoldable pub picturesOf : List ℕ → List ℕ → List Picture
+picturesOf codes [] = []
+picturesOf codes (asked ∷ cursors) = record { wanted = take 40 codes; asked = asked } ∷ picturesOf (drop 40 codes) cursors
+
+-- the plan of a picture
+abbrev pub planFor : Condition → Picture → List ℕ
+planFor c p = eitherPlan c (p .wanted) (p .asked)
 
 -- what the planner refuses it by; it has room for a plan
-abbrev pub firstNumber : Condition → List ℕ → ℕ → ℕ
-firstNumber c codes asked = planRefusal c (take 40 codes) asked 44
+abbrev pub refusalFor : Condition → Picture → ℕ
+refusalFor c p = planRefusal c (p .wanted) (p .asked) 44
 
 -- each plan starts where the one before leaves the module: planned and run one at a time
-unfoldable pub plansOf : Condition → List ℕ → List ℕ → List (List ℕ)
-plansOf c codes [] = []
-plansOf c codes (asked ∷ cursors) =
-    firstPlan c codes asked ∷ plansOf (runOf c (firstPlan c codes asked)) (drop 40 codes) cursors
+unfoldable pub plansOf : Condition → List Picture → List (List ℕ)
+plansOf c [] = []
+plansOf c (p ∷ ps) = planFor c p ∷ plansOf (runOf c (planFor c p)) ps
 
 -- Refusals ------------------------------------------------------------------------------------------------------------------------
 
@@ -41,11 +48,11 @@ abbrev pub naming64 : ℕ → Stop
 naming64 refusal = record { picture = 64; refusal = refusal }
 
 -- the first picture that would be refused, with k pictures before these, and its refusal
-unfoldable pub firstRefused : ℕ → Condition → List ℕ → List ℕ → Stop
-firstRefused k c codes [] = naming64 0
-firstRefused k c codes (asked ∷ cursors) =
-    cond (eqb (firstNumber c codes asked) 0) (firstRefused (suc k) (runOf c (firstPlan c codes asked)) (drop 40 codes) cursors)
-    (record { picture = k; refusal = firstNumber c codes asked })
+unfoldable pub firstRefused : ℕ → Condition → List Picture → Stop
+firstRefused k c [] = naming64 0
+firstRefused k c (p ∷ ps) =
+    cond (eqb (refusalFor c p) 0) (firstRefused (suc k) (runOf c (planFor c p)) ps)
+    (record { picture = k; refusal = refusalFor c p })
 
 -- 1: codes not 40 for each asked cursor. 3: more than 64, or a start not well formed. 10: output under 44 bytes for each picture.
 -- room is the output's length
@@ -59,7 +66,8 @@ wholeRefusal c codes cursors room =
 -- these come before any picture is looked at; then the first such picture, counted from 0
 unfoldable pub stopOf : Condition → List ℕ → List ℕ → ℕ → Stop
 stopOf c codes cursors room =
-    cond (eqb (wholeRefusal c codes cursors room) 0) (firstRefused 0 c codes cursors) (naming64 (wholeRefusal c codes cursors room))
+    cond (eqb (wholeRefusal c codes cursors room) 0) (firstRefused 0 c (picturesOf codes cursors))
+    (naming64 (wholeRefusal c codes cursors room))
 
 -- Answers -------------------------------------------------------------------------------------------------------------------------
 
@@ -71,33 +79,34 @@ writtenBy stop plans = cond (eqb (stop .refusal) 0) plans []
 unfoldable pub lengthsOf : List (List ℕ) → List ℕ
 lengthsOf plans = map length plans ++ replicate (64 - length plans) 0
 
+-- the answer, by the plans that are written: their bytes together, and each length
 abbrev pub reeledBy : Stop → List (List ℕ) → Reeled
-reeledBy stop plans =
-    record { refusal = stop .refusal; picture = stop .picture; lengths = lengthsOf (writtenBy stop plans) }
+reeledBy stop written = record { stop = stop; bytes = length (flatten written); lengths = lengthsOf written }
 
--- a refused reel: all lengths are 0
+-- that is, refused: no bytes, and all lengths are 0 (for the function that makes it)
 abbrev pub refusedAt : Stop → Reeled
-refusedAt stop = record { refusal = stop .refusal; picture = stop .picture; lengths = replicate 64 0 }
+refusedAt stop = record { stop = stop; bytes = 0; lengths = replicate 64 0 }
 
 -- the plans laid end to end at the buffer's start, and the rest of it as it was
 abbrev pub reelOut : Stop → List (List ℕ) → List ℕ → List ℕ
 reelOut stop plans out = atStart (flatten (writtenBy stop plans)) out
 
 -- The pictures come in turn: the bytes of each, as many as its length says, are what a plan is for (demand 3), from where the bytes
--- before them leave the module
-unfoldable pub InTurn : Condition → List ℕ → List ℕ → List ℕ → List ℕ → Type 0
-InTurn c codes [] lengths bytes = Unit {0}
-InTurn c codes (asked ∷ cursors) lengths bytes =
-    Delivers (eitherStart false) c (take 40 codes) asked (take (getD lengths 0 0) bytes)
-    × InTurn (runOf c (take (getD lengths 0 0) bytes)) (drop 40 codes) cursors (drop 1 lengths) (drop (getD lengths 0 0) bytes)
+-- before them leave the module. (What the lengths are is told by the answer)
+unfoldable pub InTurn : Condition → List Picture → List ℕ → List ℕ → Type 0
+InTurn c [] lengths bytes = Unit {0}
+InTurn c (p ∷ ps) lengths bytes =
+    Delivers (eitherStart false) c (p .wanted) (p .asked) (take (getD lengths 0 0) bytes)
+    × InTurn (runOf c (take (getD lengths 0 0) bytes)) ps (drop 1 lengths) (drop (getD lengths 0 0) bytes)
 
--- What a reel promises of its answer r and of the output at exit, by where it is refused: they are these for all inputs; and where it
--- is accepted, the pictures come in turn
-pub record Promise (stop : Stop) (c : Condition) (codes cursors before after : List ℕ) (r : Reeled) : Type 0 where
-  pub answer : r ≡ reeledBy stop (plansOf c codes cursors)
-  pub output : after ≡ reelOut stop (plansOf c codes cursors) before
-  pub delivers : r .refusal ≡ 0 → InTurn c codes cursors (r .lengths) after
+-- What a reel promises of its answer r and of the output at exit, by where it is refused: they are these for all inputs; and
+-- where it is accepted, the pictures come in turn
+pub record Promise (stop : Stop) (c : Condition) (pictures : List Picture) (before after : List ℕ) (r : Reeled) : Type 0 where
+  pub answer : r ≡ reeledBy stop (writtenBy stop (plansOf c pictures))
+  pub output : after ≡ reelOut stop (plansOf c pictures) before
+  pub delivers : r .stop .refusal ≡ 0 → InTurn c pictures (r .lengths) after
 
 -- what `reel` promises
 abbrev pub Reels : Condition → List ℕ → List ℕ → List ℕ → List ℕ → Reeled → Type 0
-Reels c codes cursors before after r = Promise (stopOf c codes cursors (length before)) c codes cursors before after r
+Reels c codes cursors before after r =
+    Promise (stopOf c codes cursors (length before)) c (picturesOf codes cursors) before after r

@@ -1,24 +1,17 @@
 // A reel: pictures in turn, each planned from where the one before leaves the module.
 use condition::Condition;
 ghost use mathlib.Core.Path.{_≡_};
-ghost use Prim.Native.Nat.{_*_, _≤_};
+ghost use Prim.Native.Nat.{_*_, _≤_, _<_};
 ghost use mathlib.Core.List.{flatten};
 ghost use lib.ListN.{length};
 ghost use lib.Dec.{eqb};
 ghost use Rattle.planner.specs.Plan.{atStart, pictured};
-ghost use Rattle.reel.specs.Reel.{plansOf, naming64, firstRefused, wholeRefusal, stopOf, lengthsOf};
-ghost use Rattle.reel.specs.Reel.{refusedAt, Reels};
+ghost use Rattle.reel.specs.Reel.{picturesOf, plansOf, naming64, firstRefused, wholeRefusal, stopOf};
+ghost use Rattle.reel.specs.Reel.{reeledBy, refusedAt, Reels};
+ghost use Rattle.reel.specs.Start.{StartOf};
 
 // The most pictures of a reel. This number is named where none of them is refused, or the whole call.
 pub const MOST: usize = 64;
-
-// What a reel answers: a refusal number, 0 when accepted; the picture that is refused; and the length of each plan, all 0 when
-// refused.
-pub struct Reeled {
-    pub refusal: u8,
-    pub picture: u8,
-    pub lengths: [u8; MOST],
-}
 
 // Where a reel is refused: the picture, and its refusal number, 0 for none.
 pub struct Stop {
@@ -26,13 +19,20 @@ pub struct Stop {
     pub refusal: u8,
 }
 
+// What a reel answers: where it is refused; all its bytes together, and the length of each plan, all 0 when refused.
+pub struct Reeled {
+    pub stop: Stop,
+    pub bytes: u32,
+    pub lengths: [u8; MOST],
+}
+
 // A refused reel.
 pub fn refused(stop: Stop) -> Reeled
     ensures { λ r. ⌜ r ≡ refusedAt stop ⌝ }
 {
     Reeled {
-        refusal: stop.refusal,
-        picture: stop.picture,
+        stop: stop,
+        bytes: 0,
         lengths: [0u8; MOST],
     }
 }
@@ -80,7 +80,7 @@ fn whole(c: Condition, codes: &[u8], cursors: &[u8], room: usize) -> u8
 // for from the start.
 fn first_refused(c: Condition, codes: &[u8], cursors: &[u8]) -> Stop
     requires { ⌜ (length (now codes) ≡ 40 * length (now cursors)) × (length (now cursors) ≤ 64) ⌝ }
-    ensures { λ r. ⌜ r ≡ firstRefused 0 c (now (codes .entry)) (now (cursors .entry)) ⌝ }
+    ensures { λ r. ⌜ r ≡ firstRefused 0 c (picturesOf (now (codes .entry)) (now (cursors .entry))) ⌝ }
 {
     let mut k = 0;
     while k < cursors.len() {
@@ -124,27 +124,47 @@ fn left_by(c: Condition, wanted: &[u8], asked: u8) -> Condition
     left
 }
 
-// Puts the plans of a reel that is not refused end to end at the start of out; answers their lengths.
-fn put_plans(c: Condition, codes: &[u8], cursors: &[u8], out: &mut [u8]) -> [u8; MOST]
+// The condition that picture k is planned from: the start, or what the plan before leaves.
+fn start_of(c: Condition, codes: &[u8], cursors: &[u8], k: usize) -> Condition
+    requires { ⌜ (length (now codes) ≡ 40 * length (now cursors)) × (k < length (now cursors)) ⌝ }
+    ensures { λ r. ⌜ StartOf c (now (codes .entry)) (now (cursors .entry)) k r ⌝ }
+{
+    if k == 0 {
+        return c;
+    }
+    let last = k - 1;
+    left_by(
+        c,
+        &codes[last * Condition::CELLS..k * Condition::CELLS],
+        cursors[last],
+    )
+}
+
+// Puts the plans of a reel that is not refused end to end at the start of out; `stop` says so.
+fn put_plans(stop: Stop, c: Condition, codes: &[u8], cursors: &[u8], out: &mut [u8]) -> Reeled
     requires { ⌜ stopOf c (now codes) (now cursors) (length (now out)) .refusal ≡ 0 ⌝ }
-    ensures { λ r. ⌜ (r ≡ lengthsOf (plansOf c (now (codes .entry)) (now (cursors .entry))))
-        × (now (out .exit) ≡ atStart (flatten (plansOf c (now (codes .entry)) (now (cursors .entry)))) (now (out .entry))) ⌝ }
+    ensures { λ r. ⌜ (r ≡ reeledBy stop (plansOf c (picturesOf (now (codes .entry)) (now (cursors .entry)))))
+        × (now (out .exit)
+        ≡ atStart (flatten (plansOf c (picturesOf (now (codes .entry)) (now (cursors .entry))))) (now (out .entry))) ⌝ }
 {
     let mut lengths = [0u8; MOST];
-    let mut left = c;
     let mut at = 0;
     let mut k = 0;
     while k < cursors.len() {
         let next = k + 1;
         let wanted = &codes[k * Condition::CELLS..next * Condition::CELLS];
-        let asked = cursors[k];
-        let p = planner::plan(left, wanted, asked as u32, &mut out[at..]);
+        let start = start_of(c, codes, cursors, k);
+        let p = planner::plan(start, wanted, cursors[k] as u32, &mut out[at..]);
         lengths[k] = p.length;
         at += p.length as usize;
-        left = left_by(c, wanted, asked);
         k = next;
     }
-    lengths
+    let bytes = at as u32;
+    Reeled {
+        stop: stop,
+        bytes: bytes,
+        lengths: lengths,
+    }
 }
 
 // The plans of the pictures in turn, 40 codes and a cursor each, end to end at the start of out; or a refusal, and nothing
@@ -157,10 +177,5 @@ pub fn reel(c: Condition, codes: &[u8], cursors: &[u8], out: &mut [u8]) -> Reele
     if stop.refusal != 0 {
         return refused(stop);
     }
-    let lengths = put_plans(c, codes, cursors, out);
-    Reeled {
-        refusal: 0,
-        picture: stop.picture,
-        lengths: lengths,
-    }
+    put_plans(stop, c, codes, cursors, out)
 }

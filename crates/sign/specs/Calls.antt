@@ -2,10 +2,11 @@
 -- block, running or planning, and writing back.
 use Prim.Native.Nat.{ℕ, _+_, _*_, _%_, _/_, _<_}
 use mathlib.Core.Path.{_≡_}
-use mathlib.Core.Bool.{true, false, cond, not, _&&_}
+use mathlib.Core.Bool.{Bool, true, false, cond, not, _&&_}
 use mathlib.Core.List.{List, [], _∷_, _++_, flatten}
 use lib.ListN.{length, getD, take, drop}
 use lib.Dec.{eqb, ltb, leb}
+use Rattle.condition.specs.declared.Condition.{Condition}
 use Rattle.condition.specs.Condition.{powerUp}
 use Rattle.condition.specs.Steps.{eitherStart}
 use Rattle.layout.specs.Layout.{conditionIn}
@@ -21,7 +22,8 @@ use Rattle.planner.specs.Fonts.{FontsDelivers}
 use Rattle.planner.specs.Clear.{eitherPlan, eitherFontsPlan}
 use Rattle.planner.specs.Answer.{planRefusal, fontsRefusal, outBy}
 use Rattle.reel.specs.declared.Stop.{Stop}
-use Rattle.reel.specs.Reel.{plansOf, naming64, stopOf, writtenBy, lengthsOf, reelOut, InTurn}
+use Rattle.reel.specs.Reel.{Picture, picturesOf, plansOf, naming64, firstRefused, wholeRefusal, writtenBy, lengthsOf, reelOut}
+use Rattle.reel.specs.Reel.{InTurn}
 
 -- The tally as four-byte numbers, low byte first -------------------------------------------------------------------------
 
@@ -94,16 +96,17 @@ HostFonts b codes fonts cursor out r left =
 
 -- Reel --------------------------------------------------------------------------------------------------------------------
 
--- 1: a block not 512 bytes, or codes not 40 for each asked cursor; 2 and 3: as reading the block. These name 64. Then as the reel
-unfoldable pub blockStop : List ℕ → List ℕ → List ℕ → ℕ → Stop
-blockStop b codes cursors room =
-    let n = hostRefusalBy (eqb (length codes) (40 * length cursors)) b 0 in
-    cond (eqb n 0) (stopOf (conditionIn b) codes cursors room) (naming64 n)
+-- 1: a block not 512 bytes, or another length not right; 2 and 3: as reading the block; 3 and 10: as the whole reel. These name 64.
+-- Then the first picture that would be refused
+unfoldable pub reelStopBy : Bool → List ℕ → List ℕ → List ℕ → ℕ → Stop
+reelStopBy long b codes cursors room =
+    let n = hostRefusalBy long b (wholeRefusal (conditionIn b) codes cursors room) in
+    cond (eqb n 0) (firstRefused 0 (conditionIn b) (picturesOf codes cursors)) (naming64 n)
 
--- 1 also for lengths not 64
+-- the lengths that have to be right: codes 40 for each asked cursor, and 64 lengths
 unfoldable pub hostReelStop : List ℕ → List ℕ → List ℕ → List ℕ → List ℕ → Stop
 hostReelStop b codes cursors lengths out =
-    cond (eqb (length lengths) 64) (blockStop b codes cursors (length out)) (naming64 1)
+    reelStopBy (eqb (length lengths) 64 && eqb (length codes) (40 * length cursors)) b codes cursors (length out)
 
 -- the answer as one number: all bytes together, or 65,536 plus 256 times the picture plus the refusal
 unfoldable pub reelNumber : Stop → ℕ → ℕ
@@ -113,18 +116,19 @@ reelNumber stop bytes = cond (eqb (stop .refusal) 0) bytes (65536 + 256 * stop .
 unfoldable pub lengthsAfter : Stop → List (List ℕ) → List ℕ → List ℕ
 lengthsAfter stop plans lengths = cond (eqb (length lengths) 64) (lengthsOf (writtenBy stop plans)) lengths
 
--- The answer r of a reel, by where it is refused, and the lengths and the buffer that it leaves. An answer below 65,536 says that so
--- many bytes stand at the buffer's start, and that the pictures come in turn by them
-pub record HostReel (b codes cursors before out : List ℕ) (r : ℕ) (after left : List ℕ) : Type 0 where
-  pub answer : r ≡ reelNumber (hostReelStop b codes cursors before out) (length (flatten (plansOf (conditionIn b) codes cursors)))
-  pub lengths : after ≡ lengthsAfter (hostReelStop b codes cursors before out) (plansOf (conditionIn b) codes cursors) before
-  pub buffer : left ≡ reelOut (hostReelStop b codes cursors before out) (plansOf (conditionIn b) codes cursors) out
-  pub delivers : r < 65536 → InTurn (conditionIn b) codes cursors after left
+-- The answer r of a reel, by where it is refused, and the lengths and the buffer that it leaves. An answer below 65,536 says that
+-- so many bytes stand at the buffer's start, and that the pictures come in turn by them
+pub record ReelPromise (stop : Stop) (c : Condition) (pictures : List Picture) (lent out : List ℕ) (r : ℕ) (told left : List ℕ)
+    : Type 0 where
+  pub answer : r ≡ reelNumber stop (length (flatten (plansOf c pictures)))
+  pub lengths : told ≡ lengthsAfter stop (plansOf c pictures) lent
+  pub buffer : left ≡ reelOut stop (plansOf c pictures) out
+  pub delivers : r < 65536 → InTurn c pictures told left
 
--- the sum of bytes
-unfoldable pub sumOf : List ℕ → ℕ
-sumOf [] = 0
-sumOf (x ∷ xs) = x + sumOf xs
+-- what `sign_reel` promises
+abbrev pub HostReel : List ℕ → List ℕ → List ℕ → List ℕ → List ℕ → ℕ → List ℕ → List ℕ → Type 0
+HostReel b codes cursors lent out r told left =
+    ReelPromise (hostReelStop b codes cursors lent out) (conditionIn b) (picturesOf codes cursors) lent out r told left
 
 -- Power-up ----------------------------------------------------------------------------------------------------------------
 

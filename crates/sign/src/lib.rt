@@ -5,8 +5,9 @@ ghost use lib.ListN.{length};
 ghost use Rattle.questions.specs.Questions.{hostView, hostDot, hostUnderline, hostLit};
 ghost use Rattle.sign.specs.Calls.{numberAt, fourBytes, tallyAt, tallyBytes};
 ghost use Rattle.layout.specs.Layout.{conditionIn};
-ghost use Rattle.reel.specs.Reel.{Promise};
-ghost use Rattle.sign.specs.Calls.{blockStop, reelNumber, sumOf};
+ghost use lib.Dec.{eqb};
+ghost use Rattle.reel.specs.Reel.{picturesOf, Promise};
+ghost use Rattle.sign.specs.Calls.{reelStopBy, reelNumber};
 ghost use Rattle.sign.specs.Calls.{HostRun, HostPlan, HostFonts, HostReel, HostPowerUp};
 use condition::Condition;
 use host::Base;
@@ -158,10 +159,13 @@ pub extern "C" fn sign_plan_fonts(
     host::answer(Base::Plan, p.refusal, p.length as u32)
 }
 
-// A reel on the block that is lent, with its refusals.
+// A reel on the block that is lent, with the refusals of the block.
 fn reeled(block: &[u8], codes: &[u8], cursors: &[u8], out: &mut [u8]) -> Reeled
-    ensures { λ r. ⌜ Promise (blockStop (now (block .entry)) (now (codes .entry)) (now (cursors .entry)) (length (now (out .entry))))
-        (conditionIn (now (block .entry))) (now (codes .entry)) (now (cursors .entry)) (now (out .entry)) (now (out .exit)) r ⌝ }
+    ensures { λ r. ⌜ Promise
+        (reelStopBy (eqb (length (now (codes .entry))) (40 * length (now (cursors .entry)))) (now (block .entry))
+        (now (codes .entry)) (now (cursors .entry)) (length (now (out .entry))))
+        (conditionIn (now (block .entry))) (picturesOf (now (codes .entry)) (now (cursors .entry))) (now (out .entry))
+        (now (out .exit)) r ⌝ }
 {
     if !reel::matched(codes, cursors) {
         return reel::refused(reel::naming_64(1));
@@ -172,20 +176,6 @@ fn reeled(block: &[u8], codes: &[u8], cursors: &[u8], out: &mut [u8]) -> Reeled
     }
     let c = got.condition;
     reel::reel(c, codes, cursors, out)
-}
-
-// All bytes together.
-fn sum(lengths: &[u8]) -> u32
-    requires { ⌜ length (now lengths) ≤ 64 ⌝ }
-    ensures { λ r. ⌜ r ≡ sumOf (now (lengths .entry)) ⌝ }
-{
-    let mut bytes: u32 = 0;
-    let mut i = 0;
-    while i < lengths.len() {
-        bytes += lengths[i] as u32;
-        i += 1;
-    }
-    bytes
 }
 
 // The answer of a reel as one number.
@@ -217,11 +207,8 @@ pub extern "C" fn sign_reel(
     let r = reeled(block, codes, cursors, out);
     let counts = r.lengths;
     row::copy(lengths, &counts);
-    let stop = Stop {
-        picture: r.picture,
-        refusal: r.refusal,
-    };
-    reel_number(stop, sum(&counts))
+    let stop = r.stop;
+    reel_number(stop, r.bytes)
 }
 
 // Writes the power-up block for a default font; answers 0 or the refusal.

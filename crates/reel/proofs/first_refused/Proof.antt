@@ -1,22 +1,25 @@
 use mathlib.Core.Path.{_≡_, sym, _∙_}
-use Prim.Native.Nat.{_-_, _*_, _≤_}
+use Prim.Native.Nat.{_-_, _≤_}
 use native.Mathlib.Omega.{arith}
 use lib.ListN.{length, drop}
 use borrow.Author.Needs.{needs}
-use Rattle.reel.specs.Reel.{firstRefused}
+use Rattle.reel.specs.Reel.{picturesOf, firstRefused}
 use Rattle.reel.proofs.Turns.{firstFrom, from-start, goes-on, stops, none-stops}
 use Rattle.reel.proofs.first_refused.Statement.{statement}
 use Rattle.reel.proofs.first_refused.Tie as tie
 
 abbrev Inv-loop : tie.InvT-loop
 Inv-loop c codes cursors k₀ k =
-    (k ≤ length cursors) × (firstRefused 0 c codes cursors ≡ firstFrom c k (drop (k * 40) codes) (drop k cursors))
+    (k ≤ length cursors) × (firstRefused 0 c (picturesOf codes cursors) ≡ firstFrom c k (drop k (picturesOf codes cursors)))
 
 abbrev μ-loop : tie.MeasureT-loop
 μ-loop c codes cursors k₀ k = length cursors - k
 
 loop-holds : tie.Need-loop-holds Inv-loop μ-loop
-loop-holds c = (search needs, from-start _ _ _ (record { codes-40 = search needs; fonts-40 = search needs }))
+loop-holds c = (
+  search needs,
+  from-start _ _ (record { codes-40 = search needs; fonts-40 = search needs; users-96 = search needs; held-4 = search needs }),
+)
 
 loop-again : tie.Need-loop-again Inv-loop μ-loop
 loop-again c =
@@ -29,7 +32,7 @@ returns c =
     sym (k .before .loop .inv .1 ∙ stops _ _ _ _ _ (k .loop-test .taken) (c .before .refusal .ensures) (c .if1 .taken))
 
 returns-2 : tie.Need-returns-2 Inv-loop μ-loop
-returns-2 c = c .naming-64 .ensures ∙ sym (c .before .before .loop .inv .1 ∙ none-stops _ _ _ _ _ (c .before .loop-test .left))
+returns-2 c = c .naming-64 .ensures ∙ sym (c .before .before .loop .inv .1 ∙ none-stops _ _ _ _ (c .before .loop-test .left))
 
 -- What the statements ask for -----------------------------------------------------------------------------------------------------
 

@@ -1,4 +1,4 @@
-use mathlib.Core.Path.{_≡_, sym, _∙_}
+use mathlib.Core.Path.{_∙_}
 use lib.ListN.{replicate}
 use borrow.Author.Needs.{needs}
 use Rattle.condition.specs.Set.{withCells, withCursor}

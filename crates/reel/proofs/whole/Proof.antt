@@ -1,5 +1,7 @@
-use mathlib.Core.Bool.{_&&_}
-use lib.Dec.{leb}
+use Prim.Native.Nat.{_*_}
+use mathlib.Core.Path.{_≡_, sym, _∙_}
+use mathlib.Core.Bool.{cond, _&&_}
+use lib.Dec.{ltb, leb}
 use lib.ListN.{length}
 use borrow.Author.Tests.{not-true, not-false}
 use borrow.Author.Needs.{needs}
@@ -32,35 +34,27 @@ returns-2 c =
       not-true (leb (length (a .cursors .now)) 64 && w .result) (c .if2 .taken),
     )
 
-returns-3 : tie.Need-returns-3
+-- where neither 1 nor 3 holds, the room decides
+room-decides : (e : tie.Else2) → (let a = e .before .before .before .before .before .before .args in
+    wholeRefusal (a .c) (a .codes .now) (a .cursors .now) (a .room) ≡ cond (ltb (a .room) (44 * length (a .cursors .now))) 10 0)
 unfolding wholeRefusal
-returns-3 c =
-    let k = c .before .before .before in
+room-decides e =
+    let k = e .before .before in
     let f = k .before .matched in
-    let w = c .before .before .well-formed in
+    let w = e .before .well-formed in
     let a = k .before .before .before .before .args in
     rw (
       ← f .ensures,
       not-false (f .result) (k .if1 .left),
       ← w .ensures,
-      not-false (leb (length (a .cursors .now)) 64 && w .result) (c .before .if2 .left),
-      short (a .room) (length (a .cursors .now)) (c .if3 .taken),
+      not-false (leb (length (a .cursors .now)) 64 && w .result) (e .if2 .left),
     )
 
+returns-3 : tie.Need-returns-3
+returns-3 c = sym (room-decides (c .before) ∙ rw (short _ _ (c .if3 .taken)))
+
 returns-4 : tie.Need-returns-4
-unfolding wholeRefusal
-returns-4 c =
-    let k = c .before .before .before in
-    let f = k .before .matched in
-    let w = c .before .before .well-formed in
-    let a = k .before .before .before .before .args in
-    rw (
-      ← f .ensures,
-      not-false (f .result) (k .if1 .left),
-      ← w .ensures,
-      not-false (leb (length (a .cursors .now)) 64 && w .result) (c .before .if2 .left),
-      enough (a .room) (length (a .cursors .now)) (c .if3 .left),
-    )
+returns-4 c = sym (room-decides (c .before) ∙ rw (enough _ _ (c .if3 .left)))
 
 pub whole-spec : {M : Type 1} → statement M
 whole-spec = tie.close (tie.spec matched-requires returns well-formed-requires returns-2 returns-3 returns-4)

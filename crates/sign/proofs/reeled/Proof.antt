@@ -1,5 +1,6 @@
 use mathlib.Core.Path.{sym, ap, _∙_}
 use native.Mathlib.Omega.{arith}
+use lib.ListN.{length}
 use borrow.Author.Tests.{not-true, not-false}
 use borrow.Author.Needs.{needs}
 use Rattle.reel.specs.Reel.{naming64, refusedAt}
@@ -20,7 +21,9 @@ refused-requires c κs = search needs
 returns : tie.Need-returns
 returns c =
     let k = c .before .before in
-    refused _ _ _ _ _ (naming64 1) (reel-unmatched _ _ _ _ (sym (k .before .matched .ensures) ∙ not-true _ (k .if1 .taken)))
+    let a = k .before .before .before .before .before .before .args in
+    let e = sym (k .before .matched .ensures) ∙ not-true _ (k .if1 .taken) in
+    refused _ _ _ _ (naming64 1) (reel-unmatched (a .block .now) (a .codes .now) (a .cursors .now) (length (a .out .now)) e)
     (λ z. omega arith) _ (c .refused .ensures ∙ ap refusedAt (c .before .naming-64 .ensures))
 
 opened-requires : tie.Need-opened-requires
@@ -36,9 +39,11 @@ returns-2 : tie.Need-returns-2
 returns-2 c =
     let g = c .before .before .before .before in
     let k = g .before in
-    let fit = sym (k .before .matched .ensures) ∙ not-false _ (k .if1 .left) in
+    let a = k .before .before .before .before .before .before .args in
+    let e = sym (k .before .matched .ensures) ∙ not-false _ (k .if1 .left) in
     let bad = c .before .before .if2 .taken in
-    refused _ _ _ _ _ (naming64 (g .opened .result .refusal)) (reel-damaged _ _ _ _ fit _ (g .opened .ensures) bad) bad _
+    refused _ _ _ _ (naming64 (g .opened .result .refusal))
+    (reel-damaged (a .block .now) (a .codes .now) (a .cursors .now) (length (a .out .now)) e _ (g .opened .ensures) bad) bad _
     (c .refused2 .ensures ∙ ap refusedAt (c .before .naming-642 .ensures))
 
 reel-requires : tie.Need-reel-requires
@@ -52,8 +57,8 @@ returns-3 c =
     let q = c .before .before in
     let g = q .before .before .before .before .before in
     let k = g .before in
-    let fit = sym (k .before .matched .ensures) ∙ not-false _ (k .if1 .left) in
-    reel-in _ _ _ _ fit _ (g .opened .ensures) (q .before .before .before .if2 .left) _ _ (q .reel .ensures)
+    let e = sym (k .before .matched .ensures) ∙ not-false _ (k .if1 .left) in
+    reel-in _ _ _ _ e _ (g .opened .ensures) (q .before .before .before .if2 .left) _ _ (q .reel .ensures)
 
 pub reeled-spec : {M : Type 1} → statement M
 reeled-spec =

@@ -1,5 +1,4 @@
 use mathlib.Core.Path.{_≡_, ap, _∙_}
-use native.Mathlib.Omega.{arith}
 use lib.ListN.{length}
 use Rattle.reel.specs.declared.Stop.{Stop}
 use Rattle.sign.specs.Calls.{reelNumber}
@@ -35,12 +34,6 @@ slice-aggregate-copy c = search needs
 copy-requires : tie.Need-copy-requires
 copy-requires c κs = search needs
 
-slice-aggregate-sum : tie.Need-slice-aggregate-sum
-slice-aggregate-sum c = search needs
-
-sum-requires : tie.Need-sum-requires
-sum-requires c κs = omega (arith, long (c .before .before .before .before))
-
 reel-number-requires-2 : tie.Need-reel-number-requires-2
 reel-number-requires-2 c κs = search needs
 
@@ -52,10 +45,10 @@ same-length-2 c = search needs
 
 returns-2 : tie.Need-returns-2
 returns-2 c =
-    let p = c .before .before .before .before .before in
+    let p = c .before .before .before .before in
     let r = p .before .before .before .before .before .before in
-    reel-done _ _ _ _ _ (r .before .before .if1 .left) _ _ _ _ _ (r .reeled .ensures) (long (p .before)) (p .copy .ensures)
-    (c .before .sum .ensures) (c .reel-number2 .ensures)
+    reel-done _ _ _ _ _ (r .before .before .if1 .left) _ _ _ _ (r .reeled .ensures) (long (p .before)) (p .copy .ensures)
+    (c .reel-number2 .ensures)
 
 pub sign-reel-spec : {M : Type 1} → statement M
 sign-reel-spec =
@@ -67,8 +60,6 @@ sign-reel-spec =
     reeled-requires
     slice-aggregate-copy
     copy-requires
-    slice-aggregate-sum
-    sum-requires
     reel-number-requires-2
     same-length
     same-length-2
