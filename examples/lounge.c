@@ -1,6 +1,7 @@
 /* The lounge's loop: pictures that come in turn, again and again. One call of sign_reel plans a whole round, each
-   picture from where the one before leaves the sign; then each is run and sent when its turn comes. What a picture
-   stands for is left out here, and what to do when the sign is in doubt: station.c has both.
+   picture from where the one before leaves the sign; then each is run and sent when its turn comes. Left out here: how
+   long a picture stands; the reserving of the wire (host.c); the file and its mark, and recovery, with which a host
+   begins whose sign was not switched on this moment, and which comes after a failed wire (station.c, docs/HOST.md).
 
    Build it after `make lib`:  cc -Iinclude -o lounge examples/lounge.c target/staticlib/libsign.a          */
 
@@ -53,7 +54,8 @@ static const char *play(void) {
     uint32_t all = sign_reel(block, sizeof block, codes, sizeof codes, cursors, sizeof cursors,
                              lengths, sizeof lengths, plans, sizeof plans);
     if (all >= SIGN_REEL_REFUSED) {
-        printf("picture %u of the round: ", (unsigned)sign_reel_picture(all));
+        if (sign_reel_picture(all) < SIGN_REEL) /* else it is the call itself */
+            printf("picture %u of the round, the first being 0: ", (unsigned)sign_reel_picture(all));
         return sign_refusal_text(sign_reel_refusal(all));
     }
     const uint8_t *plan = plans;
@@ -68,12 +70,12 @@ static const char *play(void) {
 }
 
 static int failed(const char *what) {
-    if (what != NULL) printf("refused: %s\n", what);
+    if (what != NULL) printf("stopped: %s\n", what);
     return what != NULL;
 }
 
 int main(void) {
-    /* a sign that was just switched on, link J6 open; the tally is 0 */
+    /* a sign that was just switched on (otherwise recovery first), link J6 open; the tally is 0 */
     if (sign_power_up(0, block, sizeof block) != SIGN_ACCEPTED) return 1;
     set_picture(0, "Streaming lounge", "Deck 7, aft");
     set_picture(1, "Tonight 20:00", "The long voyage");

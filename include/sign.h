@@ -14,8 +14,9 @@
 
    Every call takes any bytes: nothing in a buffer can make it fail otherwise than by a refusal, and
    a refused call changes nothing that was lent to it (but for the 64 lengths of sign_reel, which are
-   part of its answer and are then all 0). It looks at a buffer only within the length given. What the host has to see to: each pointer is to that many bytes of its own memory (no
-   NULL, not even with length 0), and the buffers of one call do not overlap.
+   part of its answer and are then all 0). It looks at a buffer only within the length given. What
+   the host has to see to: each pointer is to that many bytes of its own memory (no NULL, not even
+   with length 0), and the buffers of one call do not overlap.
 
    There is no state outside the buffers and no allocation: calls on different buffers may run at
    the same time on any threads. A buffer that is only read (bytes, codes, fonts, cursors, the block
@@ -75,11 +76,11 @@ enum sign_refusal {
                                 code; a reel has more than 64 pictures */
     SIGN_TOO_LONG      = 4,  /* more than 32,768 bytes in one run */
     SIGN_TALLY_FULL    = 5,  /* a tally number would pass 4,000,000,000 */
-    SIGN_HALF_RECEIVED = 6,  /* plan: a command is half received */
-    SIGN_WRONG_MODE    = 7,  /* plan: the mode is not 1 */
-    SIGN_USER_ON_MOVE  = 8,  /* plan: a user character stands on 08h, 09h, 0Ah, 0Ch, 0Dh or 1Bh;
-                                sign_plan_fonts: or on 18h, 19h or 1Ah */
-    SIGN_NO_CHARACTER  = 9,  /* plan: a wanted code below 20h has no user character */
+    SIGN_HALF_RECEIVED = 6,  /* plan, reel: a command is half received */
+    SIGN_WRONG_MODE    = 7,  /* plan, reel: the mode is not 1 */
+    SIGN_USER_ON_MOVE  = 8,  /* plan, reel: a user character stands on 08h, 09h, 0Ah, 0Ch, 0Dh or
+                                1Bh; sign_plan_fonts: or on 18h, 19h or 1Ah */
+    SIGN_NO_CHARACTER  = 9,  /* plan, reel: a wanted code below 20h has no user character */
     SIGN_NO_ROOM       = 10  /* the output is under 44 bytes for sign_plan, 104 for sign_plan_fonts,
                                 44 for each picture of sign_reel, 512 for a block */
 };
@@ -158,18 +159,19 @@ uint32_t sign_plan_fonts(const uint8_t *block, size_t block_len,
                          const uint8_t *fonts, size_t fonts_len, uint32_t cursor,
                          uint8_t *out, size_t out_len);
 
-/* Plans up to 64 pictures that come in turn, each in the selected font and from where the one before
-   leaves the sign. Picture k, from 0, is the 40 codes from 40 * k on, and its asked cursor is
-   cursors[k]; so codes has 40 bytes for each cursor. Writes their plans to out, end to end: the same
-   bytes that sign_plan gives one at a time, each plan run before the next is asked for. lengths, of
-   64 bytes, gets the length of each plan, and 0 beyond the pictures. The block stays as it is: when
-   a picture's turn comes give its bytes to sign_run, send them where it answers 0, and send nothing
-   else in between (docs/HOST.md, A loop of pictures).
-   Answers how many bytes were written, all together (0: nothing is to be sent), and nothing else of
-   out changes; or 65,536 plus 256 times the picture plus the refusal, and then out did not change
-   and the lengths are all 0, as long as there are 64. First, with 64 for the picture, what is refused
-   of the whole call: 1, 2, 3 or 10. Then the first picture that would be refused, and what sign_plan
-   refuses it by: 3, 6, 7, 8 or 9. */
+/* Plans up to 64 pictures that come in turn, each in the selected font and from where the one
+   before leaves the sign. Picture k, from 0, is the 40 codes from 40 * k on, and its asked cursor
+   is cursors[k]; so codes has 40 bytes for each cursor. Writes their plans to out, end to end: the
+   same bytes that sign_plan gives one at a time, each plan run before the next is asked for.
+   lengths, of 64 bytes, gets the length of each plan, and 0 beyond the pictures. The block stays
+   as it is: when a picture's turn comes give its bytes to sign_run and send them where it answers
+   0, every picture in this order, and run and send nothing else in between (docs/HOST.md, A loop
+   of pictures).
+   Answers how many bytes were written, all together (0: nothing is to be sent), and nothing else
+   of out changes; or 65,536 plus 256 times the picture plus the refusal, and then out did not
+   change and the lengths are all 0, as long as there are 64 (else they stay as they were). First,
+   with 64 for the picture, what is refused of the whole call: 1, 2, 3 or 10. Then the first
+   picture that would be refused, and what sign_plan refuses it by: 3, 6, 7, 8 or 9. */
 uint32_t sign_reel(const uint8_t *block, size_t block_len,
                    const uint8_t *codes, size_t codes_len,
                    const uint8_t *cursors, size_t cursors_len,
