@@ -4,7 +4,6 @@ use mathlib.Core.Path.{_≡_}
 use mathlib.Core.List.{List, [], _∷_, _++_}
 use lib.ListN.{set}
 use Rattle.condition.specs.declared.Condition.{Condition}
-use Rattle.reel.specs.declared.Stop.{Stop}
 use Rattle.reel.specs.Reel.{picturesOf, plansOf, stopOf}
 use Rattle.bench_sheet.specs.Sheet.{Case, blank}
 

@@ -215,7 +215,7 @@ pub with-room : (c : Condition) (wanted : List ℕ) (asked room : ℕ) → 44 �
 unfolding planRefusal
 with-room c wanted asked room h = rw (le-ltb room 44 h)
 
--- and what puts them is given what it asks for
+-- what puts the accepted plans is given what it asks for
 pub plan-given : (c : Condition) (wanted : List ℕ) (asked : ℕ) → Accepted c wanted asked
     → Given c wanted (replicate 40 (c .font)) asked
 plan-given c wanted asked t =

@@ -55,7 +55,7 @@ pictures-drop codes (asked ∷ cursors) (suc k) =
     let e : 40 + k * 40 ≡ suc k * 40 = omega arith in
     pictures-drop (drop 40 codes) cursors k ∙ rw (drop-drop (k * 40) 40 codes, e)
 
--- what is left before it, and behind the last
+-- what is left at its turn, and behind the last
 pub next-picture : (codes cursors : List ℕ) (k : ℕ) → k < length cursors
     → drop k (picturesOf codes cursors) ≡ pictureAt codes cursors k ∷ drop (k + 1) (picturesOf codes cursors)
 unfolding picturesOf

@@ -43,7 +43,7 @@ plansOf c (p ∷ ps) = planFor c p ∷ plansOf (runOf c (planFor c p)) ps
 
 -- Refusals ------------------------------------------------------------------------------------------------------------------------
 
--- what is refused of the whole call, and of none, names 64
+-- what is refused of the whole call, or of none, names 64
 abbrev pub naming64 : ℕ → Stop
 naming64 refusal = record { picture = 64; refusal = refusal }
 

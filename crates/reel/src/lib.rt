@@ -140,7 +140,7 @@ fn start_of(c: Condition, codes: &[u8], cursors: &[u8], k: usize) -> Condition
     )
 }
 
-// Puts the plans of a reel that is not refused end to end at the start of out; `stop` says so.
+// Puts the plans of a reel that is not refused end to end at the start of out; `stop` is handed on in the answer.
 fn put_plans(stop: Stop, c: Condition, codes: &[u8], cursors: &[u8], out: &mut [u8]) -> Reeled
     requires { ⌜ stopOf c (now codes) (now cursors) (length (now out)) .refusal ≡ 0 ⌝ }
     ensures { λ r. ⌜ (r ≡ reeledBy stop (plansOf c (picturesOf (now (codes .entry)) (now (cursors .entry)))))

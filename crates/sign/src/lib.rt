@@ -2,11 +2,11 @@
 ghost use mathlib.Core.Path.{_≡_};
 ghost use Prim.Native.Nat.{_+_, _*_, _/_, _%_, _≤_, _<_};
 ghost use lib.ListN.{length};
+ghost use lib.Dec.{eqb};
+ghost use Rattle.layout.specs.Layout.{conditionIn};
+ghost use Rattle.reel.specs.Reel.{picturesOf, Promise};
 ghost use Rattle.questions.specs.Questions.{hostView, hostDot, hostUnderline, hostLit};
 ghost use Rattle.sign.specs.Calls.{numberAt, fourBytes, tallyAt, tallyBytes};
-ghost use Rattle.layout.specs.Layout.{conditionIn};
-ghost use lib.Dec.{eqb};
-ghost use Rattle.reel.specs.Reel.{picturesOf, Promise};
 ghost use Rattle.sign.specs.Calls.{reelStopBy, reelNumber};
 ghost use Rattle.sign.specs.Calls.{HostRun, HostPlan, HostFonts, HostReel, HostPowerUp};
 use condition::Condition;
