@@ -452,6 +452,23 @@ fn each_start(r: &mut Reels) {
     }
 }
 
+/// Every number of pictures, from power-up and from another start, with just enough room, a byte less and more; then
+/// with one picture of them refused.
+fn each_size(r: &mut Reels) {
+    for pictures in 0..=REEL + 1 {
+        for c in [Condition::power_up(0), start(&mut r.rng, &PLANNERS_CODES)] {
+            let mut reel = some_reel(&c, pictures, &mut r.rng);
+            for spare in [0, -1, 1] {
+                r.compare(&Call::new(&c, &reel).spare(spare));
+            }
+            if pictures > 0 {
+                reel[r.rng.below(pictures)].1 = 40;
+                r.compare(&Call::new(&c, &reel));
+            }
+        }
+    }
+}
+
 /// 64 plans of 44 bytes: the output is filled to its last byte.
 fn longest(r: &mut Reels) {
     let c = changed(0, |c| c.cursor = 5);
@@ -902,6 +919,11 @@ fn all_met(r: &mut Reels) {
             [3, 6, 7, 8, 9].map(|n: usize| counts[n])
         );
     }
+    for n in 0..=REEL {
+        r.report.expect(of(n) > 3, || {
+            format!("only {} reels of {} pictures were accepted", of(n), n)
+        });
+    }
     for n in [0, 1, 2, 3, 63, 64] {
         r.report.expect(of(n) > 100, || {
             format!("only {} reels of {} pictures were accepted", of(n), n)
@@ -935,6 +957,7 @@ fn main() {
     let mut r = Reels::new(12);
     nothing(&mut r);
     each_start(&mut r);
+    each_size(&mut r);
     longest(&mut r);
     wrong_lengths(&mut r);
     damaged_blocks(&mut r);
@@ -946,5 +969,5 @@ fn main() {
     threads(&mut r);
     giant_lengths(&mut r);
     all_met(&mut r);
-    r.report.end("reels", 39_922);
+    r.report.end("reels", 40_455);
 }

@@ -66,8 +66,10 @@ fn whole(c: Condition, codes: &[u8], cursors: &[u8], room: usize) -> u8
     if !matched(codes, cursors) {
         return 1;
     }
-    let formed = c.well_formed();
-    if !((n <= MOST) & formed) {
+    if MOST < n {
+        return 3;
+    }
+    if !c.well_formed() {
         return 3;
     }
     if room / planner::ROOM < n {

@@ -1,4 +1,5 @@
 use mathlib.Core.Path.{ap, sym, _∙_}
+use native.Mathlib.Omega.{arith}
 use borrow.Author.Needs.{needs}
 use Rattle.reel.specs.declared.Stop.{Stop}
 use Rattle.condition.proofs.Good.{Sized}
@@ -20,7 +21,8 @@ refused-requires : tie.Need-refused-requires
 refused-requires c κs = search needs
 
 returns : tie.Need-returns
-returns c = refused _ _ _ _ _ (c .before .before .before .stop-at .ensures) (c .before .if1 .taken) _ (c .refused .ensures)
+returns c =
+    refused _ _ _ _ _ (c .before .before .before .stop-at .ensures) (λ z. omega (arith, c .before .if1 .taken)) _ (c .refused .ensures)
 
 put-plans-requires : tie.Need-put-plans-requires
 put-plans-requires c κs = ap (λ (s : Stop). s .refusal) (sym (c .before .before .before .stop-at .ensures)) ∙ c .before .if1 .left

@@ -1,4 +1,5 @@
 use mathlib.Core.Path.{_≡_, ap, _∙_}
+use native.Mathlib.Omega.{arith}
 use lib.ListN.{length}
 use Rattle.reel.specs.declared.Stop.{Stop}
 use Rattle.sign.specs.Calls.{reelNumber}
@@ -22,7 +23,7 @@ reel-number-requires c κs = search needs
 
 returns : tie.Need-returns
 returns c =
-    reel-short _ _ _ _ _ (c .before .before .if1 .taken) _
+    reel-short _ _ _ _ _ (λ z. omega (arith, z, c .before .before .if1 .taken)) _
     (c .reel-number .ensures ∙ ap (λ (s : Stop). reelNumber s 0) (c .before .naming-64 .ensures))
 
 reeled-requires : tie.Need-reeled-requires
@@ -47,8 +48,8 @@ returns-2 : tie.Need-returns-2
 returns-2 c =
     let p = c .before .before .before .before in
     let r = p .before .before .before .before .before .before in
-    reel-done _ _ _ _ _ (r .before .before .if1 .left) _ _ _ _ (r .reeled .ensures) (long (p .before)) (p .copy .ensures)
-    (c .reel-number2 .ensures)
+    reel-done _ _ _ _ _ (omega (arith, r .before .before .if1 .left)) _ _ _ _ (r .reeled .ensures) (long (p .before))
+    (p .copy .ensures) (c .reel-number2 .ensures)
 
 pub sign-reel-spec : {M : Type 1} → statement M
 sign-reel-spec =
