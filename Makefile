@@ -23,7 +23,7 @@ target/bin/show target/bin/tell: $(SOURCES)
 	rt check $(@F)
 	@touch -c $@
 
-demo: target/bin/show $(LIB)    ## runs show and a host program in C, and shows what they print
+demo: target/bin/show $(LIB)    ## runs show and two host programs in C, and shows what they print
 	. tests/tools.sh && need c && $$RUN target/bin/show < examples/greeting.bin
 	tests/run.sh example
 

@@ -160,27 +160,35 @@ uint32_t sign_plan_fonts(const uint8_t *block, size_t block_len,
                          uint8_t *out, size_t out_len);
 
 /* Plans up to 64 pictures that come in turn, each in the selected font and from where the one
-   before leaves the sign. Picture k, from 0, is the 40 codes from 40 * k on, and its asked cursor
-   is cursors[k]; so codes has 40 bytes for each cursor. Writes their plans to out, end to end: the
-   same bytes that sign_plan gives one at a time, each plan run before the next is asked for.
+   before leaves the sign (since 2.3). cursors_len says how many they are, and codes_len is 40 times
+   as many: give these numbers, not sizeof of arrays that are not full. Picture k, from 0, is the 40
+   codes from 40 * k on, and its asked cursor is cursors[k]. Writes their plans to out, end to end:
+   the same bytes that sign_plan gives one at a time, each plan run before the next is asked for.
    lengths, of 64 bytes, gets the length of each plan, and 0 beyond the pictures. The block stays
    as it is: when a picture's turn comes give its bytes to sign_run and send them where it answers
    0, every picture in this order, and run and send nothing else in between (docs/HOST.md, A loop
    of pictures).
    Answers how many bytes were written, all together (0: nothing is to be sent), and nothing else
    of out changes; or 65,536 plus 256 times the picture plus the refusal, and then out did not
-   change and the lengths are all 0, as long as there are 64 (else they stay as they were). First,
-   with 64 for the picture, what is refused of the whole call: 1, 2, 3 or 10. Then the first
-   picture that would be refused, and what sign_plan refuses it by: 3, 6, 7, 8 or 9. */
+   change and the lengths are all 0, as long as there are 64 (else they stay as they were). (256 is
+   no refusal here: compare with SIGN_REEL_REFUSED.) First, with 64 for the picture, what is refused
+   of the whole call: 1, 2, 3 or 10. Then the first picture that would be refused, and what
+   sign_plan refuses it by: 3, 6, 7, 8 or 9. No pictures give no bytes (and no pointer may be NULL
+   then either: the data() of an empty std::vector may be). */
 uint32_t sign_reel(const uint8_t *block, size_t block_len,
                    const uint8_t *codes, size_t codes_len,
                    const uint8_t *cursors, size_t cursors_len,
                    uint8_t *lengths, size_t lengths_len,
                    uint8_t *out, size_t out_len);
 
-/* Of a refused reel's answer: the picture, 64 for the whole call, and the refusal. */
-static inline uint32_t sign_reel_picture(uint32_t answer) { return (answer - SIGN_REEL_REFUSED) / 256; }
-static inline uint32_t sign_reel_refusal(uint32_t answer) { return (answer - SIGN_REEL_REFUSED) % 256; }
+/* Of a reel's answer: the first picture that would be refused, 64 for none of them (the reel is
+   accepted, or the whole call is refused); and the refusal, 0 where it is accepted. */
+static inline uint32_t sign_reel_picture(uint32_t answer) {
+    return answer < SIGN_REEL_REFUSED ? SIGN_REEL : (answer - SIGN_REEL_REFUSED) / 256;
+}
+static inline uint32_t sign_reel_refusal(uint32_t answer) {
+    return answer < SIGN_REEL_REFUSED ? 0 : (answer - SIGN_REEL_REFUSED) % 256;
+}
 
 /* What a cell shows (sign_view): one of these, plus the code (0 to 255) for a user character and
    for a built-in one. A blank cell and the Euro mark carry no code. */
@@ -217,7 +225,7 @@ static inline uint32_t sign_tally_number(const uint8_t *tally, enum sign_number 
     return p[0] + 0x100u * p[1] + 0x10000u * p[2] + 0x1000000u * p[3];
 }
 
-/* A refusal in words: the number itself, without the 256 or 65,536 (of a reel, sign_reel_refusal). */
+/* A refusal in words: the number itself, without the 256 or 65,536 (of a reel, sign_reel_text). */
 static inline const char *sign_refusal_text(uint32_t refusal) {
     switch (refusal) {
     case SIGN_ACCEPTED:      return "accepted";
@@ -233,6 +241,15 @@ static inline const char *sign_refusal_text(uint32_t refusal) {
     case SIGN_NO_ROOM:       return "the output buffer is too small";
     default:                 return "not a refusal number";
     }
+}
+
+/* A reel's answer in words: by 3 it is the picture's cursor, or the call. */
+static inline const char *sign_reel_text(uint32_t answer) {
+    uint32_t refusal = sign_reel_refusal(answer);
+    if (refusal != SIGN_OUT_OF_RANGE) return sign_refusal_text(refusal);
+    return sign_reel_picture(answer) < SIGN_REEL
+        ? "the asked cursor is above 39"
+        : "more than 64 pictures, or the block is no condition that a sign can be in";
 }
 
 #ifdef __cplusplus

@@ -1,6 +1,6 @@
 /* The fifteen cases of the bench sheet (document 01 and request W3), pictures of two fonts (request W1), a reel
-   (request W5), one refusal of each number, a wrong length that is refused unread, the places and names of sign.h, and what docs/HOST.md advises (what ends half a command,
-   recovery), through the C functions. Prints ok, or what failed. */
+   (request W5), one refusal of each number, a wrong length that is refused unread, the places and names of sign.h, and
+   what docs/HOST.md advises (what ends half a command, recovery), through the C functions. Prints ok, or what failed. */
 
 #include <stdio.h>
 #include <stdlib.h>
@@ -270,6 +270,8 @@ static void reels(void) {
     memcpy(kept, block, sizeof kept);
     uint32_t all = REEL(3, 512, 120, 64, 132);
     check("reel", all == sizeof plans && memcmp(room, plans, sizeof plans) == 0 && room[all] == 0xEE);
+    check("reel: its answer, taken apart", sign_reel_picture(all) == SIGN_REEL && sign_reel_refusal(all) == SIGN_ACCEPTED
+        && strcmp(sign_reel_text(all), "accepted") == 0);
     check("reel: lengths", lengths[0] == 4 && lengths[1] == 2 && lengths[2] == 1 && memcmp(lengths + 3, zero, 61) == 0);
     check("reel: the block stays", memcmp(block, kept, sizeof kept) == 0);
     size_t at = 0;
@@ -293,10 +295,16 @@ static void reels(void) {
     check("reel 10", REEL(3, 512, 120, 64, 131) == all - 1 + SIGN_NO_ROOM && memcmp(lengths, zero, 64) == 0);
     all = REEL(3, 512, 120, 64, 132);
     check("reel 3", sign_reel_picture(all) == 0 && sign_reel_refusal(all) == SIGN_OUT_OF_RANGE && memcmp(lengths, zero, 64) == 0);
+    check("reel 3: in words", strcmp(sign_reel_text(all), "the asked cursor is above 39") == 0);
     cursors[0] = 0;
     all = REEL(3, 512, 120, 64, 132);
     check("reel 9", sign_reel_picture(all) == 1 && sign_reel_refusal(all) == SIGN_NO_CHARACTER && memcmp(lengths, zero, 64) == 0);
+    check("reel 9: in words", strcmp(sign_reel_text(all), sign_refusal_text(SIGN_NO_CHARACTER)) == 0);
     check("reel: out and block stay", room[0] == 0xEE && memcmp(block, kept, sizeof kept) == 0);
+    static uint8_t many[(SIGN_REEL + 1) * SIGN_CELLS], places[SIGN_REEL + 1];
+    all = sign_reel(block, SIGN_BLOCK, many, sizeof many, places, sizeof places, lengths, sizeof lengths, room, sizeof room);
+    check("reel of 65", sign_reel_picture(all) == SIGN_REEL && sign_reel_refusal(all) == SIGN_OUT_OF_RANGE
+        && strncmp(sign_reel_text(all), "more than 64 pictures", 21) == 0);
     AFTER(0x12);
     check("reel 7", REEL(3, 512, 120, 64, 132) == SIGN_REEL_REFUSED + SIGN_WRONG_MODE);
     AFTER(0x12, 0x1B);
