@@ -22,7 +22,8 @@ refused-requires c κs = search needs
 
 returns : tie.Need-returns
 returns c =
-    refused _ _ _ _ _ (c .before .before .before .stop-at .ensures) (λ z. omega (arith, c .before .if1 .taken)) _ (c .refused .ensures)
+    let k = c .before in
+    refused _ _ _ _ _ (k .before .before .stop-at .ensures) (λ z. omega (arith, k .if1 .taken)) _ (c .refused .ensures)
 
 put-plans-requires : tie.Need-put-plans-requires
 put-plans-requires c κs = ap (λ (s : Stop). s .refusal) (sym (c .before .before .before .stop-at .ensures)) ∙ c .before .if1 .left
