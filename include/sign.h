@@ -13,10 +13,10 @@
    module would carry them out and the block would not follow.
 
    Every call takes any bytes: nothing in a buffer can make it fail otherwise than by a refusal, and
-   a refused call changes nothing that was lent to it (but for the 64 lengths of sign_reel, which are
-   part of its answer and are then all 0). It looks at a buffer only within the length given. What
-   the host has to see to: each pointer is to that many bytes of its own memory (no NULL, not even
-   with length 0), and the buffers of one call do not overlap.
+   a refused call changes nothing that was lent to it (but for the 64 lengths of sign_reel, which
+   are part of its answer and are then all 0). It looks at a buffer only within the length given.
+   What the host has to see to: each pointer is to that many bytes of its own memory (no NULL, not
+   even with length 0), and the buffers of one call do not overlap.
 
    There is no state outside the buffers and no allocation: calls on different buffers may run at
    the same time on any threads. A buffer that is only read (bytes, codes, fonts, cursors, the block
@@ -41,8 +41,8 @@ extern "C" {
 #define SIGN_CELLS      40    /* cells: 0 to 19 top line, 20 to 39 bottom line */
 #define SIGN_ROOM       44    /* bytes that sign_plan wants room for */
 #define SIGN_FONTS_ROOM 104   /* bytes that sign_plan_fonts wants room for */
-#define SIGN_REEL       64    /* most pictures in one reel, and the bytes of its lengths; the output of
-                                 a reel wants SIGN_ROOM for each picture */
+#define SIGN_REEL       64    /* most pictures in one reel, and the bytes of its lengths; the output
+                                 of a reel wants SIGN_ROOM for each picture */
 #define SIGN_MOST       32768 /* most bytes in one run */
 
 /* Stack that a call needs on x86-64, in bytes, from its return address down, with all that it calls
@@ -52,7 +52,7 @@ extern "C" {
      sign_run        1,272
      sign_plan       2,405
      sign_plan_fonts 2,348
-     sign_reel       2,741
+     sign_reel       2,757
      sign_view       656
      sign_dot        560
      sign_underline  544
@@ -63,8 +63,8 @@ extern "C" {
    the red zone: give interrupts a stack of their own (IST), or keep them off during a call. */
 
 /* Refusals: the lowest that holds is given (sign_reel looks at the whole call before any picture).
-   sign_run and sign_power_up answer the number itself, a plan 256 plus the number, a question 65,536
-   plus the number, a reel 65,536 plus 256 times the picture plus the number. */
+   sign_run and sign_power_up answer the number itself, a plan 256 plus the number, a question
+   65,536 plus the number, a reel 65,536 plus 256 times the picture plus the number. */
 enum sign_refusal {
     SIGN_ACCEPTED      = 0,
     SIGN_WRONG_LENGTH  = 1,  /* block not 512 bytes, tally not 16, codes not 40, fonts not 40; reel:
@@ -86,8 +86,8 @@ enum sign_refusal {
 };
 #define SIGN_REFUSED       256   /* a plan's refusal is answered as this plus its number */
 #define SIGN_ASKED_REFUSED 65536 /* a question's refusal is answered as this plus its number */
-#define SIGN_REEL_REFUSED  65536 /* a reel that answers this or more is refused: sign_reel_picture and
-                                    sign_reel_refusal take the answer apart */
+#define SIGN_REEL_REFUSED  65536 /* a reel that answers this or more is refused: sign_reel_picture
+                                    and sign_reel_refusal take the answer apart */
 
 /* Places in a block that a host may read (never write: the check would no longer fit). */
 #define SIGN_CURSOR_AT       3   /* the cursor, 0 to 39 */

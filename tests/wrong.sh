@@ -60,7 +60,8 @@ judge() {
     case $said in
     '') echo "wrong: FAILED: $2: the prover names no place: $log" ;;
     specs/*) echo "wrong: FAILED: $2 is no definition: $said" ;;
-    *Need-* | *': record '*) echo "wrong: FAILED: $2 has another shape: $said" ;; # another need, or no such step
+    # another need, no such step, or code that is not covered, which has no needs at all
+    *Need-* | *': record '* | *'has no `Tie`'*) echo "wrong: FAILED: $2 has another shape: $said" ;;
     *)
         if [ -z "$due" ] || sed -n "${line}p" "crates/$name/${place%%:*}" | grep -qF "$due"; then
             echo "wrong: $2 is refused, first at $place"

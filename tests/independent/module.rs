@@ -1228,7 +1228,12 @@ fn planned_answer(planned: Result<Vec<u8>, u32>, room: usize, out: &mut [u8]) ->
     }
 }
 
-/// Answers all bytes together; or 65,536, plus 256 times the picture (64 for the whole call), plus the refusal.
+/// The answer of a refused reel: 65,536, plus 256 times the picture (64 for the whole call), plus the refusal.
+pub fn reel_refused(picture: usize, refusal: u32) -> u32 {
+    65_536 + 256 * picture as u32 + refusal
+}
+
+/// Answers all bytes together, or as above.
 /// The lengths are a part of the answer: where 64 of them are lent they are written, whatever the refusal.
 pub fn host_reel(block: &[u8], codes: &[u8], cursors: &[u8], lengths: &mut [u8], out: &mut [u8], moves: &Moves) -> u32 {
     let right_lengths = block.len() == BLOCK && codes.len() == CELLS * cursors.len() && lengths.len() == REEL;
@@ -1243,7 +1248,7 @@ pub fn host_reel(block: &[u8], codes: &[u8], cursors: &[u8], lengths: &mut [u8],
         lengths.fill(0);
     }
     match planned {
-        Err((picture, refusal)) => 65_536 + 256 * picture as u32 + refusal,
+        Err((picture, refusal)) => reel_refused(picture, refusal),
         Ok(reel) => {
             for (length, &n) in lengths.iter_mut().zip(&reel.lengths) {
                 *length = n as u8;

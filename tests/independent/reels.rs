@@ -477,7 +477,7 @@ fn longest(r: &mut Reels) {
         for spare in [0, -1, 1, 2_000] {
             let answer = r.compare(&Call::new(&c, &reel).spare(spare));
             let right = if spare < 0 {
-                65_536 + 256 * 64 + 10
+                reel_refused(REEL, 10)
             } else {
                 44 * pictures as u32
             };
@@ -575,7 +575,7 @@ fn each_picture(r: &mut Reels) {
                 reel[later].1 = 40;
             }
             let answer = r.compare(&Call::new(&c, &reel));
-            let right = 65_536 + 256 * at as u32 + [3, 9][way % 2];
+            let right = reel_refused(at, [3, 9][way % 2]);
             r.report
                 .expect(answer == right, || format!("picture {} of 64: answer {}", at, answer));
         }
@@ -583,40 +583,37 @@ fn each_picture(r: &mut Reels) {
 }
 
 /// Where something is wrong: with the whole call, or with the first picture, one between or the last.
-#[derive(Clone, Copy)]
-enum Where {
-    Whole,
-    First,
-    Middle,
-    Last,
-}
+const WHOLE: usize = 0;
+const FIRST: usize = 1;
+const MIDDLE: usize = 2;
+const LAST: usize = 3;
 
 /// What can be wrong with a call, in the order in which it is refused.
-const WRONG: [(Where, u32); 18] = [
+const WRONG: [(usize, u32); 18] = [
     // 0 to 2: the length of the block, of the codes, of the lengths
-    (Where::Whole, 1),
-    (Where::Whole, 1),
-    (Where::Whole, 1),
+    (WHOLE, 1),
+    (WHOLE, 1),
+    (WHOLE, 1),
     // 3 and 4: the block's header, its check
-    (Where::Whole, 2),
-    (Where::Whole, 2),
+    (WHOLE, 2),
+    (WHOLE, 2),
     // 5 to 7: a start not well formed, an unused byte of the block that is not 0, more than 64 pictures
-    (Where::Whole, 3),
-    (Where::Whole, 3),
-    (Where::Whole, 3),
+    (WHOLE, 3),
+    (WHOLE, 3),
+    (WHOLE, 3),
     // 8: the room
-    (Where::Whole, 10),
+    (WHOLE, 10),
     // 9 to 13: the first picture, which meets the start
-    (Where::First, 3),
-    (Where::First, 6),
-    (Where::First, 7),
-    (Where::First, 8),
-    (Where::First, 9),
+    (FIRST, 3),
+    (FIRST, 6),
+    (FIRST, 7),
+    (FIRST, 8),
+    (FIRST, 9),
     // 14 to 17: the asked cursor and a wanted code of later ones
-    (Where::Middle, 3),
-    (Where::Middle, 9),
-    (Where::Last, 3),
-    (Where::Last, 9),
+    (MIDDLE, 3),
+    (MIDDLE, 9),
+    (LAST, 3),
+    (LAST, 9),
 ];
 
 /// A call with all that is wrong which the set names, and its answer: that of the first of them.
@@ -693,13 +690,7 @@ fn wrong_call(set: u32, rng: &mut Rng) -> (Call, u32) {
     }
     let first = WRONG.iter().enumerate().find(|&(i, _)| wrong(i));
     let (_, &(place, refusal)) = first.expect("something is wrong");
-    let picture = match place {
-        Where::Whole => REEL,
-        Where::First => 0,
-        Where::Middle => middle,
-        Where::Last => last,
-    };
-    (call, 65_536 + 256 * picture as u32 + refusal)
+    (call, reel_refused([REEL, 0, middle, last][place], refusal))
 }
 
 /// Every one, every two and every three things that are wrong at once, and many more sets: the first in order is given.
@@ -739,7 +730,7 @@ fn too_many(r: &mut Reels) {
         for room in [PLAN_ROOM * pictures, 0] {
             call.room = room;
             let answer = r.compare(&call);
-            r.report.expect(answer == 65_536 + 256 * 64 + 3, || {
+            r.report.expect(answer == reel_refused(REEL, 3), || {
                 format!("{} pictures: answer {}", pictures, answer)
             });
         }
@@ -812,7 +803,7 @@ fn nothing(r: &mut Reels) {
         });
     }
     let got = sign::reel(&[], &[], &[], &mut [], &mut []);
-    r.report.expect(got == 65_536 + 256 * 64 + 1, || {
+    r.report.expect(got == reel_refused(REEL, 1), || {
         format!("nothing at all: answer {}", got)
     });
     r.report.cases += 3;
@@ -849,7 +840,7 @@ fn giant_length(r: &mut Reels, giant: &mut [u8]) {
     let n = giant.len();
     let block = Condition::power_up(0).to_block();
     let (codes, cursors) = ([0x41; CELLS], [39]);
-    let refusal = 65_536 + 256 * 64 + 1;
+    let refusal = reel_refused(REEL, 1);
     let mut out = [0xEE; PLAN_ROOM];
     let mut expect = |what: &str, answer: u32, right: u32, left: bool| {
         r.report.cases += 1;

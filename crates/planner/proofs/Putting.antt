@@ -12,17 +12,24 @@ use Rattle.moves.specs.Ways.{path}
 use Rattle.planner.specs.Plan.{atStart}
 use Rattle.moves.proofs.Moving.{path-most}
 
--- bytes copied to the place k of a buffer that has room for them
+-- bytes put at the start of what is lent of a buffer from the place k on
+pub put-behind : (out part : List ℕ) (k : ℕ) (bs : List ℕ) → k + length bs ≤ length out
+    → part ≡ atStart bs (take (length out - k) (drop k out))
+    → take k out ++ (part ++ drop (length out - k) (drop k out)) ≡ sets out k bs
+put-behind out part k bs h e =
+    let none : drop (length out - k) (drop k out) ≡ [] =
+    drop-of-length-le (drop k out) {i = length out - k} (omega (arith, length-drop k out)) in
+    rw (e, tail-part out k, none, append-nil, drop-drop (length bs) k out)
+    (sym (sets-eq bs out k h ∙ append-assoc (take k out) bs _))
+
+-- the same of bytes that are copied there, where there is room for them
 pub put-part : (out part : List ℕ) (k : ℕ) (bs : List ℕ) → k + length bs ≤ length out
     → part ≡ laid bs (take (length out - k) (drop k out))
     → take k out ++ (part ++ drop (length out - k) (drop k out)) ≡ sets out k bs
 unfolding laid
 put-part out part k bs h e =
-    let d : length (drop k out) ≡ length out - k = length-drop k out in
-    let all : take (length (drop k out)) bs ≡ bs = take-all (length (drop k out)) bs (omega arith) in
-    let none : drop (length out - k) (drop k out) ≡ [] = drop-of-length-le (drop k out) {i = length out - k} (omega arith) in
-    rw (e, tail-part out k, all, none, append-nil, drop-drop (length bs) k out)
-    (sym (sets-eq bs out k h ∙ append-assoc (take k out) bs _))
+    let n : length bs ≤ length (take (length out - k) (drop k out)) = rw (tail-part out k, length-drop k out) (omega arith) in
+    put-behind out part k bs h (e ∙ rw (take-all (length (take (length out - k) (drop k out))) bs n))
 
 -- the way between two places stands at the start of three bytes
 pub way-in : (p q n : ℕ) (bytes : List ℕ) → n ≡ length (path p q) → bytes ≡ sets (0 ∷ 0 ∷ 0 ∷ []) 0 (path p q)

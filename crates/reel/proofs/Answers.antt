@@ -13,13 +13,13 @@ use Rattle.planner.proofs.Refusals.{plan-delivers}
 use Rattle.reel.specs.declared.Stop.{Stop}
 use Rattle.reel.specs.declared.Reeled.{Reeled}
 use Rattle.reel.specs.Reel.{Picture, picturesOf, planFor, plansOf, firstRefused, stopOf, writtenBy, lengthsOf}
-use Rattle.reel.specs.Reel.{reeledBy, refusedAt, InTurn, Promise, Reels}
+use Rattle.reel.specs.Reel.{reeledBy, refusedAt, PicturesInTurn, Promise, Reels}
 use Rattle.reel.proofs.Turns.{first-taken, unrefused}
 
 -- where no picture is refused, plans laid end to end with their lengths give the pictures in turn, whatever stands behind
 pub comes : (k : ℕ) (c : Condition) (ps : List Picture) (zs rest : List ℕ) → Sized c → firstRefused k c ps .refusal ≡ 0
-    → InTurn c ps (map length (plansOf c ps) ++ zs) (flatten (plansOf c ps) ++ rest)
-unfolding InTurn plansOf flatten
+    → PicturesInTurn c ps (map length (plansOf c ps) ++ zs) (flatten (plansOf c ps) ++ rest)
+unfolding PicturesInTurn plansOf flatten
 comes k c [] zs rest s e = tt
 comes k c (p ∷ ps) zs rest s e =
     let t = first-taken k c p ps e in

@@ -2,13 +2,13 @@
 use mathlib.Core.Path.{_≡_, refl, sym, _∙_}
 use mathlib.Core.Bool.{true, false, cond, not, _&&_, and-false}
 use mathlib.Core.List.{List, [], _∷_}
-use Prim.Native.Nat.{ℕ, zero, suc, _+_, _-_, _*_, _/_, _%_, _≤_, _<_}
+use Prim.Native.Nat.{ℕ, zero, suc, _+_, _*_, _/_, _%_, _≤_, _<_}
 use native.Mathlib.Omega.{arith}
 use native.Mathlib.Numerals.{add-one}
 use lib.Dec.{eqb, ltb, leb}
 use lib.ListN.{length, getD, take, drop, drop-of-length-le}
 use lib.Seq.{drop-drop, drop-cons}
-use borrow.Author.Tests.{eqb-true, eqb-false, eq-eqb, ne-eqb, ltb-false, lt-ltb, le-ltb, leb-true, not-false}
+use borrow.Author.Tests.{eqb-true, eqb-false, eq-eqb, ne-eqb, ltb-true, ltb-false, lt-ltb, le-ltb, leb-true, not-false}
 use Rattle.laws.proofs.Tests.{by-cases, both, passed}
 use Rattle.condition.specs.declared.Condition.{Condition}
 use Rattle.condition.specs.Condition.{wellFormed}
@@ -17,7 +17,7 @@ use Rattle.condition.proofs.Good.{Sized, run-sized}
 use Rattle.planner.specs.Answer.{planRefusal}
 use Rattle.planner.proofs.Refusals.{leaves, left-alike}
 use Rattle.reel.specs.declared.Stop.{Stop}
-use Rattle.reel.specs.Reel.{Picture, picturesOf, planFor, refusalFor, naming64, firstRefused, wholeRefusal, stopOf}
+use Rattle.reel.specs.Reel.{Picture, picturesOf, planFor, refusalFor, matching, naming64, firstRefused, wholeRefusal, stopOf}
 
 -- Lengths -------------------------------------------------------------------------------------------------------------------------
 
@@ -29,22 +29,16 @@ matched-by n m h =
     by-cases (eqb (n / 40) m) (λ e. e ∙ sym (eq-eqb n (40 * m) (omega (arith, eqb-true (n / 40) m e))))
     (λ e. e ∙ sym (ne-eqb n (40 * m) (λ z. eqb-false (n / 40) m e (omega arith))))
 
-pub short : (room m : ℕ) → room / 44 < m → ltb room (44 * m) ≡ true
-short room m h = lt-ltb room (44 * m) (omega arith)
+pub room-by : (room m : ℕ) → ltb (room / 44) m ≡ ltb room (44 * m)
+room-by room m =
+    by-cases (ltb (room / 44) m) (λ e. e ∙ sym (lt-ltb room (44 * m) (omega (arith, ltb-true (room / 44) m e))))
+    (λ e. e ∙ sym (le-ltb room (44 * m) (omega (arith, ltb-false (room / 44) m e))))
 
-pub enough : (room m : ℕ) → m ≤ room / 44 → ltb room (44 * m) ≡ false
-enough room m h = le-ltb room (44 * m) (omega arith)
+-- Pictures ------------------------------------------------------------------------------------------------------------------------
 
--- the codes of the k-th picture, as they are lent
-abbrev pub lent : List ℕ → ℕ → List ℕ
-lent codes k = take ((k + 1) * 40 - k * 40) (drop (k * 40) codes)
-
-pub lent-is : (codes : List ℕ) (k : ℕ) → lent codes k ≡ take 40 (drop (k * 40) codes)
-lent-is codes k = let e : (k + 1) * 40 - k * 40 ≡ 40 = omega arith in rw e
-
--- the k-th picture
+-- the k-th
 abbrev pub pictureAt : List ℕ → List ℕ → ℕ → Picture
-pictureAt codes cursors k = record { wanted = lent codes k; asked = getD cursors k 0 }
+pictureAt codes cursors k = record { wanted = take 40 (drop (k * 40) codes); asked = getD cursors k 0 }
 
 pictures-drop : (codes cursors : List ℕ) (k : ℕ)
     → drop k (picturesOf codes cursors) ≡ picturesOf (drop (k * 40) codes) (drop k cursors)
@@ -60,12 +54,10 @@ pub next-picture : (codes cursors : List ℕ) (k : ℕ) → k < length cursors
     → drop k (picturesOf codes cursors) ≡ pictureAt codes cursors k ∷ drop (k + 1) (picturesOf codes cursors)
 unfolding picturesOf
 next-picture codes cursors k h =
-    let e : (k + 1) * 40 - k * 40 ≡ 40 = omega arith in
     let n : k * 40 + 40 ≡ (k + 1) * 40 = omega arith in
     rw (
       pictures-drop codes cursors k,
       pictures-drop codes cursors (k + 1),
-      e,
       ← n,
       add-one k,
       drop-cons cursors k 0 h,
@@ -76,7 +68,7 @@ pub no-picture : (codes cursors : List ℕ) (k : ℕ) → length cursors ≤ k �
 unfolding picturesOf
 no-picture codes cursors k h = pictures-drop codes cursors k ∙ rw (drop-of-length-le cursors h)
 
--- The first picture that is refused ----------------------------------------------------------------------------------------------
+-- The first picture that is refused -----------------------------------------------------------------------------------------------
 
 -- the same, with every picture asked for from c
 unfoldable pub firstFrom : Condition → ℕ → List Picture → Stop
@@ -102,18 +94,21 @@ pub from-start : (c : Condition) (ps : List Picture) → Sized c → firstRefuse
 from-start c ps s = first-alike c c 0 ps s (λ p. refl)
 
 -- a turn of the loop over the pictures, where n is what the k-th is refused by
-module _ (c : Condition) (codes cursors : List ℕ) (k n : ℕ) (h : k < length cursors)
-    (r : n ≡ planRefusal c (lent codes k) (getD cursors k 0) 44) where
+module _ (c : Condition) (codes cursors : List ℕ) (k n : ℕ) (h : k < length cursors) (wanted : List ℕ)
+    (w : wanted ≡ take 40 (drop (k * 40) codes)) (r : n ≡ planRefusal c wanted (getD cursors k 0) 44) where
   abbrev pictures : List Picture
   pictures = picturesOf codes cursors
 
+  number : n ≡ refusalFor c (pictureAt codes cursors k)
+  number = r ∙ rw w
+
   pub goes-on : n ≡ 0 → firstFrom c k (drop k pictures) ≡ firstFrom c (k + 1) (drop (k + 1) pictures)
   unfolding firstFrom
-  goes-on z = rw (next-picture codes cursors k h, ← r, z, add-one k)
+  goes-on z = rw (next-picture codes cursors k h, ← number, z, add-one k)
 
   pub stops : (n ≡ 0 → ⊥) → firstFrom c k (drop k pictures) ≡ record { picture = k; refusal = n }
   unfolding firstFrom
-  stops z = rw (next-picture codes cursors k h, ← r, ne-eqb n 0 z)
+  stops z = rw (next-picture codes cursors k h, ← number, ne-eqb n 0 z)
 
 pub none-stops : (c : Condition) (codes cursors : List ℕ) (k : ℕ) → length cursors ≤ k
     → firstFrom c k (drop k (picturesOf codes cursors)) ≡ naming64 0
@@ -139,7 +134,7 @@ pub record Fit (codes cursors : List ℕ) (room : ℕ) : Type 0 where
 whole-fit : (c : Condition) (codes cursors : List ℕ) (room : ℕ) → wholeRefusal c codes cursors room ≡ 0 → Fit codes cursors room
 unfolding wholeRefusal
 whole-fit c codes cursors room e =
-    let p1 = passed (not (eqb (length codes) (40 * length cursors))) _ _ e in
+    let p1 = passed (not (matching codes cursors)) _ _ e in
     let p3 = passed (not (leb (length cursors) 64 && wellFormed c)) _ _ (p1 .1) in
     let p10 = passed (ltb room (44 * length cursors)) _ _ (p3 .1) in
     record {
@@ -162,7 +157,7 @@ module _ (c : Condition) (codes cursors : List ℕ) (room n : ℕ) (e : n ≡ wh
   whole-given z = let f = whole-fit c codes cursors room (sym e ∙ z) in (f .codes-40, f .most-64)
 
 -- a start that is not well formed is refused by 3 where there are 40 codes for each cursor, whatever else is wrong
-pub start-unformed : (c : Condition) (codes cursors : List ℕ) (room : ℕ) → eqb (length codes) (40 * length cursors) ≡ true
+pub start-unformed : (c : Condition) (codes cursors : List ℕ) (room : ℕ) → matching codes cursors ≡ true
     → wellFormed c ≡ false → wholeRefusal c codes cursors room ≡ 3
 unfolding wholeRefusal
 start-unformed c codes cursors room h w = rw (h, w, and-false)

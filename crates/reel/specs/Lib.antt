@@ -1,2 +1,1 @@
 pub mod Reel
-pub mod Start

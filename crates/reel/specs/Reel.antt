@@ -2,7 +2,7 @@
 -- output buffer. One-font planner only.
 use Prim.Native.Nat.{ℕ, suc, _-_, _*_}
 use mathlib.Core.Path.{_≡_}
-use mathlib.Core.Bool.{false, cond, not, _&&_}
+use mathlib.Core.Bool.{Bool, false, cond, not, _&&_}
 use mathlib.Core.List.{List, [], _∷_, _++_, map, flatten}
 use lib.ListN.{length, getD, take, drop, replicate}
 use lib.Dec.{eqb, ltb, leb}
@@ -54,11 +54,15 @@ firstRefused k c (p ∷ ps) =
     cond (eqb (refusalFor c p) 0) (firstRefused (suc k) (runOf c (planFor c p)) ps)
     (record { picture = k; refusal = refusalFor c p })
 
+-- codes are 40 for each asked cursor
+abbrev pub matching : List ℕ → List ℕ → Bool
+matching codes cursors = eqb (length codes) (40 * length cursors)
+
 -- 1: codes not 40 for each asked cursor. 3: more than 64, or a start not well formed. 10: output under 44 bytes for each picture.
 -- room is the output's length
 unfoldable pub wholeRefusal : Condition → List ℕ → List ℕ → ℕ → ℕ
 wholeRefusal c codes cursors room =
-    cond (not (eqb (length codes) (40 * length cursors))) 1
+    cond (not (matching codes cursors)) 1
     (cond (not (leb (length cursors) 64 && wellFormed c)) 3
     (cond (ltb room (44 * length cursors)) 10
     0))
@@ -93,18 +97,18 @@ reelOut stop plans out = atStart (flatten (writtenBy stop plans)) out
 
 -- The pictures come in turn: the bytes of each, as many as its length says, are what a plan is for (demand 3), from where the bytes
 -- before them leave the module. (What the lengths are is told by the answer)
-unfoldable pub InTurn : Condition → List Picture → List ℕ → List ℕ → Type 0
-InTurn c [] lengths bytes = Unit {0}
-InTurn c (p ∷ ps) lengths bytes =
+unfoldable pub PicturesInTurn : Condition → List Picture → List ℕ → List ℕ → Type 0
+PicturesInTurn c [] lengths bytes = Unit {0}
+PicturesInTurn c (p ∷ ps) lengths bytes =
     Delivers (eitherStart false) c (p .wanted) (p .asked) (take (getD lengths 0 0) bytes)
-    × InTurn (runOf c (take (getD lengths 0 0) bytes)) ps (drop 1 lengths) (drop (getD lengths 0 0) bytes)
+    × PicturesInTurn (runOf c (take (getD lengths 0 0) bytes)) ps (drop 1 lengths) (drop (getD lengths 0 0) bytes)
 
 -- What a reel promises of its answer r and of the output at exit, by where it is refused: they are these for all inputs; and
 -- where it is accepted, the pictures come in turn
 pub record Promise (stop : Stop) (c : Condition) (pictures : List Picture) (before after : List ℕ) (r : Reeled) : Type 0 where
   pub answer : r ≡ reeledBy stop (writtenBy stop (plansOf c pictures))
   pub output : after ≡ reelOut stop (plansOf c pictures) before
-  pub delivers : r .stop .refusal ≡ 0 → InTurn c pictures (r .lengths) after
+  pub delivers : r .stop .refusal ≡ 0 → PicturesInTurn c pictures (r .lengths) after
 
 -- what `reel` promises
 abbrev pub Reels : Condition → List ℕ → List ℕ → List ℕ → List ℕ → Reeled → Type 0

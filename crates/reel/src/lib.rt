@@ -1,14 +1,13 @@
 // A reel: pictures in turn, each planned from where the one before leaves the module.
 use condition::Condition;
 ghost use mathlib.Core.Path.{_≡_};
-ghost use Prim.Native.Nat.{_*_, _≤_, _<_};
+ghost use Prim.Native.Nat.{_+_, _*_, _≤_, _<_};
+ghost use mathlib.Core.Bool.{cond};
 ghost use mathlib.Core.List.{flatten};
-ghost use lib.ListN.{length};
-ghost use lib.Dec.{eqb};
+ghost use lib.ListN.{length, take, drop};
 ghost use Rattle.planner.specs.Plan.{atStart, pictured};
 ghost use Rattle.reel.specs.Reel.{picturesOf, plansOf, naming64, firstRefused, wholeRefusal, stopOf};
-ghost use Rattle.reel.specs.Reel.{reeledBy, refusedAt, Reels};
-ghost use Rattle.reel.specs.Start.{StartOf};
+ghost use Rattle.reel.specs.Reel.{matching, reeledBy, refusedAt, Reels};
 
 // The most pictures of a reel. This number is named where none of them is refused, or the whole call.
 pub const MOST: usize = 64;
@@ -39,7 +38,7 @@ pub fn refused(stop: Stop) -> Reeled
 
 // There are 40 codes for each asked cursor. (Their number times 40 might not fit.)
 pub fn matched(codes: &[u8], cursors: &[u8]) -> bool
-    ensures { λ r. ⌜ r ≡ eqb (length (now (codes .entry))) (40 * length (now (cursors .entry))) ⌝ }
+    ensures { λ r. ⌜ r ≡ matching (now (codes .entry)) (now (cursors .entry)) ⌝ }
 {
     let n = codes.len();
     if n % Condition::CELLS != 0 {
@@ -58,24 +57,37 @@ pub fn naming_64(refusal: u8) -> Stop
     }
 }
 
-// The refusal of the whole call, 0 for none.
+// The refusal numbers of the whole call in their order, by whether each is given.
+fn lowest(n1: bool, n3: bool, n10: bool) -> u8
+    ensures { λ r. ⌜ r ≡ cond n1 1 (cond n3 3 (cond n10 10 0)) ⌝ }
+{
+    if n1 {
+        return 1;
+    }
+    if n3 {
+        return 3;
+    }
+    if n10 { 10 } else { 0 }
+}
+
+// The refusal of the whole call, 0 for none. (44 times the number of cursors might not fit.)
 fn whole(c: Condition, codes: &[u8], cursors: &[u8], room: usize) -> u8
     ensures { λ r. ⌜ r ≡ wholeRefusal c (now (codes .entry)) (now (cursors .entry)) room ⌝ }
 {
     let n = cursors.len();
-    if !matched(codes, cursors) {
-        return 1;
-    }
-    if MOST < n {
-        return 3;
-    }
-    if !c.well_formed() {
-        return 3;
-    }
-    if room / planner::ROOM < n {
-        return 10;
-    }
-    0
+    let long = matched(codes, cursors);
+    let formed = c.well_formed();
+    lowest(!long, !((n <= MOST) & formed), room / planner::ROOM < n)
+}
+
+// The codes of picture k.
+fn codes_of(codes: &[u8], k: usize) -> &[u8]
+    requires { ⌜ (k < 64) × (k * 40 + 40 ≤ length (now codes)) ⌝ }
+    ensures { λ r. ⌜ now r ≡ take 40 (drop (k * 40) (now (codes .entry))) ⌝ }
+{
+    let from = k * Condition::CELLS;
+    let to = from + Condition::CELLS;
+    &codes[from..to]
 }
 
 // The first picture that the planner refuses. What a plan leaves is refused what its start is refused, so every picture is asked
@@ -87,7 +99,7 @@ fn first_refused(c: Condition, codes: &[u8], cursors: &[u8]) -> Stop
     let mut k = 0;
     while k < cursors.len() {
         let next = k + 1;
-        let wanted = &codes[k * Condition::CELLS..next * Condition::CELLS];
+        let wanted = codes_of(codes, k);
         let n = planner::refusal(c, wanted, cursors[k] as u32, planner::ROOM);
         if n != 0 {
             return Stop {
@@ -126,22 +138,6 @@ fn left_by(c: Condition, wanted: &[u8], asked: u8) -> Condition
     left
 }
 
-// The condition that picture k is planned from: the start, or what the plan before leaves.
-fn start_of(c: Condition, codes: &[u8], cursors: &[u8], k: usize) -> Condition
-    requires { ⌜ (length (now codes) ≡ 40 * length (now cursors)) × (k < length (now cursors)) ⌝ }
-    ensures { λ r. ⌜ StartOf c (now (codes .entry)) (now (cursors .entry)) k r ⌝ }
-{
-    if k == 0 {
-        return c;
-    }
-    let last = k - 1;
-    left_by(
-        c,
-        &codes[last * Condition::CELLS..k * Condition::CELLS],
-        cursors[last],
-    )
-}
-
 // Puts the plans of a reel that is not refused end to end at the start of out; `stop` is handed on in the answer.
 fn put_plans(stop: Stop, c: Condition, codes: &[u8], cursors: &[u8], out: &mut [u8]) -> Reeled
     requires { ⌜ stopOf c (now codes) (now cursors) (length (now out)) .refusal ≡ 0 ⌝ }
@@ -150,16 +146,17 @@ fn put_plans(stop: Stop, c: Condition, codes: &[u8], cursors: &[u8], out: &mut [
         ≡ atStart (flatten (plansOf c (picturesOf (now (codes .entry)) (now (cursors .entry))))) (now (out .entry))) ⌝ }
 {
     let mut lengths = [0u8; MOST];
+    let mut left = c;
     let mut at = 0;
     let mut k = 0;
     while k < cursors.len() {
-        let next = k + 1;
-        let wanted = &codes[k * Condition::CELLS..next * Condition::CELLS];
-        let start = start_of(c, codes, cursors, k);
-        let p = planner::plan(start, wanted, cursors[k] as u32, &mut out[at..]);
+        let wanted = codes_of(codes, k);
+        let asked = cursors[k];
+        let p = planner::plan(left, wanted, asked as u32, &mut out[at..]);
         lengths[k] = p.length;
         at += p.length as usize;
-        k = next;
+        left = left_by(c, wanted, asked);
+        k += 1;
     }
     let bytes = at as u32;
     Reeled {

@@ -23,7 +23,8 @@ use Rattle.planner.specs.Clear.{eitherPlan, eitherFontsPlan}
 use Rattle.planner.specs.Answer.{planRefusal, fontsRefusal, outBy}
 use Rattle.reel.specs.declared.Stop.{Stop}
 use Rattle.reel.specs.Reel.{Picture, picturesOf, plansOf, naming64, firstRefused, wholeRefusal, writtenBy, lengthsOf, reelOut}
-use Rattle.reel.specs.Reel.{InTurn}
+use Rattle.reel.specs.declared.Reeled.{Reeled}
+use Rattle.reel.specs.Reel.{matching, PicturesInTurn, Promise}
 
 -- The tally as four-byte numbers, low byte first -------------------------------------------------------------------------
 
@@ -103,10 +104,16 @@ reelStopBy long b codes cursors room =
     let n = hostRefusalBy long b (wholeRefusal (conditionIn b) codes cursors room) in
     cond (eqb n 0) (firstRefused 0 (conditionIn b) (picturesOf codes cursors)) (naming64 n)
 
+-- what a reel on a block promises, where 64 lengths are lent
+abbrev pub ReelsIn : List ℕ → List ℕ → List ℕ → List ℕ → List ℕ → Reeled → Type 0
+ReelsIn b codes cursors before after r =
+    Promise (reelStopBy (matching codes cursors) b codes cursors (length before)) (conditionIn b) (picturesOf codes cursors) before
+    after r
+
 -- the lengths that have to be right: codes 40 for each asked cursor, and 64 lengths
 unfoldable pub hostReelStop : List ℕ → List ℕ → List ℕ → List ℕ → List ℕ → Stop
 hostReelStop b codes cursors lengths out =
-    reelStopBy (eqb (length lengths) 64 && eqb (length codes) (40 * length cursors)) b codes cursors (length out)
+    reelStopBy (eqb (length lengths) 64 && matching codes cursors) b codes cursors (length out)
 
 -- the answer as one number: all bytes together, or 65,536 plus 256 times the picture plus the refusal
 unfoldable pub reelNumber : Stop → ℕ → ℕ
@@ -118,17 +125,17 @@ lengthsAfter stop plans lengths = cond (eqb (length lengths) 64) (lengthsOf (wri
 
 -- The answer r of a reel, by where it is refused, and the lengths and the buffer that it leaves. An answer below 65,536 says that
 -- so many bytes stand at the buffer's start, and that the pictures come in turn by them
-pub record ReelPromise (stop : Stop) (c : Condition) (pictures : List Picture) (lent out : List ℕ) (r : ℕ) (told left : List ℕ)
+pub record HostReelPromise (stop : Stop) (c : Condition) (pictures : List Picture) (lent out : List ℕ) (r : ℕ) (told left : List ℕ)
     : Type 0 where
   pub answer : r ≡ reelNumber stop (length (flatten (plansOf c pictures)))
   pub lengths : told ≡ lengthsAfter stop (plansOf c pictures) lent
   pub buffer : left ≡ reelOut stop (plansOf c pictures) out
-  pub delivers : r < 65536 → InTurn c pictures told left
+  pub delivers : r < 65536 → PicturesInTurn c pictures told left
 
 -- what `sign_reel` promises
 abbrev pub HostReel : List ℕ → List ℕ → List ℕ → List ℕ → List ℕ → ℕ → List ℕ → List ℕ → Type 0
 HostReel b codes cursors lent out r told left =
-    ReelPromise (hostReelStop b codes cursors lent out) (conditionIn b) (picturesOf codes cursors) lent out r told left
+    HostReelPromise (hostReelStop b codes cursors lent out) (conditionIn b) (picturesOf codes cursors) lent out r told left
 
 -- Power-up ----------------------------------------------------------------------------------------------------------------
 

@@ -2,12 +2,9 @@
 ghost use mathlib.Core.Path.{_≡_};
 ghost use Prim.Native.Nat.{_+_, _*_, _/_, _%_, _≤_, _<_};
 ghost use lib.ListN.{length};
-ghost use lib.Dec.{eqb};
-ghost use Rattle.layout.specs.Layout.{conditionIn};
-ghost use Rattle.reel.specs.Reel.{picturesOf, Promise};
 ghost use Rattle.questions.specs.Questions.{hostView, hostDot, hostUnderline, hostLit};
 ghost use Rattle.sign.specs.Calls.{numberAt, fourBytes, tallyAt, tallyBytes};
-ghost use Rattle.sign.specs.Calls.{reelStopBy, reelNumber};
+ghost use Rattle.sign.specs.Calls.{reelNumber, ReelsIn};
 ghost use Rattle.sign.specs.Calls.{HostRun, HostPlan, HostFonts, HostReel, HostPowerUp};
 use condition::Condition;
 use host::Base;
@@ -161,11 +158,7 @@ pub extern "C" fn sign_plan_fonts(
 
 // A reel on the block that is lent, with the refusals of the block.
 fn reeled(block: &[u8], codes: &[u8], cursors: &[u8], out: &mut [u8]) -> Reeled
-    ensures { λ r. ⌜ Promise
-        (reelStopBy (eqb (length (now (codes .entry))) (40 * length (now (cursors .entry)))) (now (block .entry))
-        (now (codes .entry)) (now (cursors .entry)) (length (now (out .entry))))
-        (conditionIn (now (block .entry))) (picturesOf (now (codes .entry)) (now (cursors .entry))) (now (out .entry))
-        (now (out .exit)) r ⌝ }
+    ensures { λ r. ⌜ ReelsIn (now (block .entry)) (now (codes .entry)) (now (cursors .entry)) (now (out .entry)) (now (out .exit)) r ⌝ }
 {
     if !reel::matched(codes, cursors) {
         return reel::refused(reel::naming_64(1));

@@ -23,13 +23,19 @@ loop-holds c = (
 
 loop-again : tie.Need-loop-again Inv-loop μ-loop
 loop-again c =
-    let k = c .before .before .before .before in
-    (search needs, k .before .loop .inv .1 ∙ goes-on _ _ _ _ _ (k .loop-test .taken) (c .before .refusal .ensures) (c .if1 .left))
+    let w = c .before .before .before in
+    let k = w .before in (
+      search needs,
+      k .before .loop .inv .1
+          ∙ goes-on _ _ _ _ _ (k .loop-test .taken) _ (w .codes-of .ensures) (c .before .refusal .ensures) (c .if1 .left),
+    )
 
 returns : tie.Need-returns Inv-loop μ-loop
 returns c =
-    let k = c .before .before .before .before in
-    sym (k .before .loop .inv .1 ∙ stops _ _ _ _ _ (k .loop-test .taken) (c .before .refusal .ensures) (c .if1 .taken))
+    let w = c .before .before .before in
+    let k = w .before in
+    sym (k .before .loop .inv .1
+    ∙ stops _ _ _ _ _ (k .loop-test .taken) _ (w .codes-of .ensures) (c .before .refusal .ensures) (c .if1 .taken))
 
 returns-2 : tie.Need-returns-2 Inv-loop μ-loop
 returns-2 c = c .naming-64 .ensures ∙ sym (c .before .before .loop .inv .1 ∙ none-stops _ _ _ _ (c .before .loop-test .left))
@@ -39,20 +45,8 @@ returns-2 c = c .naming-64 .ensures ∙ sym (c .before .before .loop .inv .1 ∙
 add-next : tie.Need-add-next Inv-loop μ-loop
 add-next c = search needs
 
-mul-wanted : tie.Need-mul-wanted Inv-loop μ-loop
-mul-wanted c = search needs
-
-mul-wanted-2 : tie.Need-mul-wanted-2 Inv-loop μ-loop
-mul-wanted-2 c = search needs
-
-sub-wanted : tie.Need-sub-wanted Inv-loop μ-loop
-sub-wanted c = search needs
-
-part-wanted-start : tie.Need-part-wanted-start Inv-loop μ-loop
-part-wanted-start c = search needs
-
-part-wanted-end : tie.Need-part-wanted-end Inv-loop μ-loop
-part-wanted-end c = search needs
+codes-of-requires : tie.Need-codes-of-requires Inv-loop μ-loop
+codes-of-requires c κs = search needs
 
 shared-slice-read-refusal : tie.Need-shared-slice-read-refusal Inv-loop μ-loop
 shared-slice-read-refusal c = search needs
@@ -63,8 +57,8 @@ cast-refusal c = omega (arith, c .shared-slice-known3 .given (c .before .before 
 refusal-requires : tie.Need-refusal-requires Inv-loop μ-loop
 refusal-requires c κs = search needs
 
-cast-t17 : tie.Need-cast-t17 Inv-loop μ-loop
-cast-t17 c = search needs
+cast-t13 : tie.Need-cast-t13 Inv-loop μ-loop
+cast-t13 c = search needs
 
 loop-less : tie.Need-loop-less Inv-loop μ-loop
 loop-less c = search needs
@@ -80,15 +74,11 @@ first-refused-spec =
     μ-loop
     loop-holds
     add-next
-    mul-wanted
-    mul-wanted-2
-    sub-wanted
-    part-wanted-start
-    part-wanted-end
+    codes-of-requires
     shared-slice-read-refusal
     cast-refusal
     refusal-requires
-    cast-t17
+    cast-t13
     returns
     loop-less
     loop-again

@@ -1,10 +1,6 @@
-use mathlib.Core.Path.{sym, ap, _∙_}
-use native.Mathlib.Omega.{arith}
-use lib.ListN.{length}
+use mathlib.Core.Path.{sym, _∙_}
 use borrow.Author.Tests.{not-true, not-false}
 use borrow.Author.Needs.{needs}
-use Rattle.reel.specs.Reel.{naming64, refusedAt}
-use Rattle.reel.proofs.Answers.{refused}
 use Rattle.sign.proofs.Reels.{reel-unmatched, reel-damaged, reel-in}
 use Rattle.sign.proofs.reeled.Statement.{statement}
 use Rattle.sign.proofs.reeled.Tie as tie
@@ -21,10 +17,8 @@ refused-requires c κs = search needs
 returns : tie.Need-returns
 returns c =
     let k = c .before .before in
-    let a = k .before .before .before .before .before .before .args in
     let e = sym (k .before .matched .ensures) ∙ not-true _ (k .if1 .taken) in
-    refused _ _ _ _ (naming64 1) (reel-unmatched (a .block .now) (a .codes .now) (a .cursors .now) (length (a .out .now)) e)
-    (λ z. omega arith) _ (c .refused .ensures ∙ ap refusedAt (c .before .naming-64 .ensures))
+    reel-unmatched _ _ _ _ e _ (c .before .naming-64 .ensures) _ (c .refused .ensures)
 
 opened-requires : tie.Need-opened-requires
 opened-requires c κs = search needs
@@ -39,12 +33,9 @@ returns-2 : tie.Need-returns-2
 returns-2 c =
     let g = c .before .before .before .before in
     let k = g .before in
-    let a = k .before .before .before .before .before .before .args in
     let e = sym (k .before .matched .ensures) ∙ not-false _ (k .if1 .left) in
-    let bad = c .before .before .if2 .taken in
-    refused _ _ _ _ (naming64 (g .opened .result .refusal))
-    (reel-damaged (a .block .now) (a .codes .now) (a .cursors .now) (length (a .out .now)) e _ (g .opened .ensures) bad) bad _
-    (c .refused2 .ensures ∙ ap refusedAt (c .before .naming-642 .ensures))
+    reel-damaged _ _ _ _ e _ (g .opened .ensures) (c .before .before .if2 .taken) _ (c .before .naming-642 .ensures) _
+    (c .refused2 .ensures)
 
 reel-requires : tie.Need-reel-requires
 reel-requires c κs = search needs
