@@ -77,17 +77,21 @@ static const char *plan_from(size_t k) {
         size_t picture = k + sign_reel_picture(answer);
         if (sign_reel_picture(answer) == SIGN_REEL || (refusal != SIGN_OUT_OF_RANGE && refusal != SIGN_NO_CHARACTER))
             return sign_reel_text(answer);
-        printf("picture %zu of %zu is left out: %s\n", picture + 1, pictures, sign_reel_text(answer));
+        printf("picture %zu of the %zu that are left is taken out: %s\n", picture + 1, pictures,
+               sign_reel_text(answer));
         leave_out(picture);
     }
 }
 
-/* Puts a notice on the sign. Answers NULL, or what went wrong. */
+/* Puts a notice on the sign; one that cannot be shown is left out. Answers NULL, or what went wrong. */
 static const char *put_notice(const char *top, const char *bottom) {
     uint8_t wanted[SIGN_CELLS], plan[SIGN_ROOM];
     set_lines(wanted, top, bottom);
     uint32_t n = sign_plan(block, sizeof block, wanted, sizeof wanted, 0, plan, sizeof plan);
-    if (n >= SIGN_REFUSED) return sign_refusal_text(n - SIGN_REFUSED);
+    if (n >= SIGN_REFUSED) { /* nothing changed: the round goes on */
+        printf("the notice is left out: %s\n", sign_refusal_text(n - SIGN_REFUSED));
+        return NULL;
+    }
     return run_and_send(plan, n);
 }
 
@@ -98,6 +102,7 @@ static uint32_t sent(void) { return sign_tally_number(tally, SIGN_NUMBER_BYTES);
 static const char *play(size_t notice) {
     uint32_t before = sent();
     const char *wrong = plan_from(0);
+    if (wrong == NULL && pictures == 0) wrong = "there is no picture to show";
     const uint8_t *plan = plans, *length = lengths; /* of the picture whose turn it is */
     for (size_t k = 0; wrong == NULL && k < pictures; k++) {
         wrong = run_and_send(plan, *length);
@@ -105,6 +110,7 @@ static const char *play(size_t notice) {
         /* here the picture stands for its time */
         if (wrong == NULL && k == notice) {
             wrong = put_notice("Lounge closes at 23", "");
+            /* here the notice stands for its time */
             if (wrong == NULL) wrong = plan_from(k + 1); /* what was planned would start from a picture that is gone */
             plan = plans, length = lengths;
         }

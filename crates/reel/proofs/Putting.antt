@@ -5,10 +5,9 @@ use mathlib.Core.List.{List, [], _∷_, _++_, map, flatten}
 use Prim.Native.Nat.{ℕ, _+_, _-_, _*_, _≤_, _<_}
 use native.Mathlib.Omega.{arith}
 use native.Mathlib.Numerals.{add-one}
-use lib.ListN.{length, getD, take, drop, set, replicate, length-append, length-drop, length-map, length-replicate}
-use lib.ListN.{replicate-append-replicate}
-use lib.Seq.{sets, length-sets, drop-at}
-use Rattle.laws.proofs.Lists.{tail-part, part-length, sets-append}
+use lib.ListN.{length, getD, take, drop, set, replicate, length-append, length-drop, length-map}
+use lib.Seq.{sets, length-sets}
+use Rattle.laws.proofs.Lists.{tail-part, part-length, drop-replicate, sets-append}
 use Rattle.condition.specs.declared.Condition.{Condition}
 use Rattle.condition.specs.Bytes.{runOf}
 use Rattle.condition.specs.Steps.{eitherStart}
@@ -22,17 +21,11 @@ use Rattle.reel.specs.declared.Stop.{Stop}
 use Rattle.reel.proofs.Turns.{pictureAt, next-picture, no-picture, first-taken, Fit, unrefused}
 
 -- lengths stored over zeros
-zeros-left : (m n z : ℕ) → m ≤ n → drop m (replicate n z) ≡ replicate (n - m) z
-zeros-left m n z h =
-    let s : n ≡ m + (n - m) = omega arith in
-    ap (λ (k : ℕ). drop m (replicate k z)) s
-    ∙ rw (← replicate-append-replicate m (n - m) z) (drop-at (replicate m z) (replicate (n - m) z) m (length-replicate m z))
-
 lengths-stored : (plans : List (List ℕ)) → length plans ≤ 64 → sets (replicate 64 0) 0 (map length plans) ≡ lengthsOf plans
 unfolding lengthsOf
 lengths-stored plans h =
     put-front (replicate 64 0) (map length plans) (omega (arith, length-map plans length))
-    ∙ rw (length-map plans length) (ap (λ (zs : List ℕ). map length plans ++ zs) (zeros-left (length plans) 64 0 h))
+    ∙ rw (length-map plans length) (ap (λ (zs : List ℕ). map length plans ++ zs) (drop-replicate (length plans) 64 0 h))
 
 -- The loop ------------------------------------------------------------------------------------------------------------------------
 
@@ -97,9 +90,8 @@ module _ (c : Condition) (codes cursors out₀ out lengths : List ℕ) (left : C
       planned : (p .length ≡ length bytes) × (part ≡ atStart bytes (take (length out - at) (drop at out)))
           × Delivers (eitherStart false) left (take 40 (drop (k * 40) codes)) (getD cursors k 0) bytes
       planned =
-          let g = v .given .room-44 in
           let room : 44 ≤ length (take (length out - at) (drop at out)) =
-          rw (tail-part out at, length-drop at out) (omega (arith, v .most, same-long)) in
+          rw (tail-part out at, length-drop at out) (omega (arith, v .most, v .given .room-44, same-long)) in
           told _ _ _ _ _ _ (with-room left _ (getD cursors k 0) _ room ∙ taken .0) (rw w at q)
 
       pub plan-most : p .length ≤ 44
@@ -113,8 +105,8 @@ module _ (c : Condition) (codes cursors out₀ out lengths : List ℕ) (left : C
           let leaves : next ≡ runOf left bytes = rw w at (e ∙ v .like-start wanted (getD cursors k 0)) ∙ sym (planned .2 .gives) in
           let plans : plansFrom left codes cursors k ≡ bytes ∷ plansFrom next codes cursors (k + 1) =
           rw (next-picture codes cursors k h, leaves) in
-          let g = v .given .room-44 in
-          let whole = put-behind out part at bytes (omega (arith, v .most, same-long, planned .2 .most)) (planned .1) in
+          let fits : at + length bytes ≤ length out = omega (arith, v .most, v .given .room-44, same-long, planned .2 .most) in
+          let whole = put-behind out part at bytes fits (planned .1) in
           record {
             given = v .given;
             inside = omega arith;
@@ -137,7 +129,8 @@ module _ (c : Condition) (codes cursors out₀ out lengths : List ℕ) (left : C
       let few : length (plansFrom c codes cursors 0) ≤ 64 = omega (arith, rw none at (v .turns), v .given .most-64, v .inside) in
       let kept : lengths ≡ lengthsOf (plansFrom c codes cursors 0) =
       sym (rw none at (v .kept)) ∙ lengths-stored (plansFrom c codes cursors 0) few in
-      let g = v .given .room-44 in (
+      let fits : length (flatten (plansFrom c codes cursors 0)) ≤ length out₀ =
+      omega (arith, end, v .most, v .inside, v .given .room-44) in (
         λ i. record { stop = stop; bytes = end i; lengths = kept i },
-        sym (rw none at (v .laid)) ∙ put-front out₀ (flatten (plansFrom c codes cursors 0)) (omega (arith, v .most, v .inside)),
+        sym (rw none at (v .laid)) ∙ put-front out₀ (flatten (plansFrom c codes cursors 0)) fits,
       )

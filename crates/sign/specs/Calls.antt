@@ -22,9 +22,9 @@ use Rattle.planner.specs.Fonts.{FontsDelivers}
 use Rattle.planner.specs.Clear.{eitherPlan, eitherFontsPlan}
 use Rattle.planner.specs.Answer.{planRefusal, fontsRefusal, outBy}
 use Rattle.reel.specs.declared.Stop.{Stop}
-use Rattle.reel.specs.Reel.{Picture, picturesOf, plansOf, naming64, firstRefused, wholeRefusal, writtenBy, lengthsOf, reelOut}
 use Rattle.reel.specs.declared.Reeled.{Reeled}
-use Rattle.reel.specs.Reel.{matching, PicturesInTurn, Promise}
+use Rattle.reel.specs.Reel.{Picture, picturesOf, plansOf, naming64, matching, firstRefused, wholeRefusal, writtenBy, lengthsOf}
+use Rattle.reel.specs.Reel.{reelOut, PicturesInTurn, Promise}
 
 -- The tally as four-byte numbers, low byte first -------------------------------------------------------------------------
 

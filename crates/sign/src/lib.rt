@@ -158,7 +158,8 @@ pub extern "C" fn sign_plan_fonts(
 
 // A reel on the block that is lent, with the refusals of the block.
 fn reeled(block: &[u8], codes: &[u8], cursors: &[u8], out: &mut [u8]) -> Reeled
-    ensures { λ r. ⌜ ReelsIn (now (block .entry)) (now (codes .entry)) (now (cursors .entry)) (now (out .entry)) (now (out .exit)) r ⌝ }
+    ensures { λ r. ⌜ ReelsIn (now (block .entry)) (now (codes .entry)) (now (cursors .entry)) (now (out .entry))
+        (now (out .exit)) r ⌝ }
 {
     if !reel::matched(codes, cursors) {
         return reel::refused(reel::naming_64(1));
