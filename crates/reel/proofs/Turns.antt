@@ -8,7 +8,7 @@ use native.Mathlib.Numerals.{add-one}
 use lib.Dec.{eqb, ltb, leb}
 use lib.ListN.{length, getD, take, drop, drop-of-length-le}
 use lib.Seq.{drop-drop, drop-cons}
-use borrow.Author.Tests.{eqb-true, eqb-false, eq-eqb, ne-eqb, ltb-true, ltb-false, lt-ltb, le-ltb, leb-true, not-false}
+use borrow.Author.Tests.{eqb-true, eqb-false, eq-eqb, ne-eqb, ltb-false, lt-ltb, le-ltb, leb-true, not-false}
 use Rattle.laws.proofs.Tests.{by-cases, both, passed}
 use Rattle.condition.specs.declared.Condition.{Condition}
 use Rattle.condition.specs.Condition.{wellFormed}
@@ -29,10 +29,11 @@ matched-by n m h =
     by-cases (eqb (n / 40) m) (λ e. e ∙ sym (eq-eqb n (40 * m) (omega (arith, eqb-true (n / 40) m e))))
     (λ e. e ∙ sym (ne-eqb n (40 * m) (λ z. eqb-false (n / 40) m e (omega arith))))
 
-pub room-by : (room m : ℕ) → ltb (room / 44) m ≡ ltb room (44 * m)
-room-by room m =
-    by-cases (ltb (room / 44) m) (λ e. e ∙ sym (lt-ltb room (44 * m) (omega (arith, ltb-true (room / 44) m e))))
-    (λ e. e ∙ sym (le-ltb room (44 * m) (omega (arith, ltb-false (room / 44) m e))))
+pub short : (room m : ℕ) → room / 44 < m → ltb room (44 * m) ≡ true
+short room m h = lt-ltb room (44 * m) (omega arith)
+
+pub enough : (room m : ℕ) → m ≤ room / 44 → ltb room (44 * m) ≡ false
+enough room m h = le-ltb room (44 * m) (omega arith)
 
 -- Pictures ------------------------------------------------------------------------------------------------------------------------
 

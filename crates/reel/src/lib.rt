@@ -2,7 +2,6 @@
 use condition::Condition;
 ghost use mathlib.Core.Path.{_≡_};
 ghost use Prim.Native.Nat.{_+_, _*_, _≤_, _<_};
-ghost use mathlib.Core.Bool.{cond};
 ghost use mathlib.Core.List.{flatten};
 ghost use lib.ListN.{length, take, drop};
 ghost use Rattle.planner.specs.Plan.{atStart, pictured};
@@ -57,27 +56,24 @@ pub fn naming_64(refusal: u8) -> Stop
     }
 }
 
-// The refusal numbers of the whole call in their order, by whether each is given.
-fn lowest(n1: bool, n3: bool, n10: bool) -> u8
-    ensures { λ r. ⌜ r ≡ cond n1 1 (cond n3 3 (cond n10 10 0)) ⌝ }
-{
-    if n1 {
-        return 1;
-    }
-    if n3 {
-        return 3;
-    }
-    if n10 { 10 } else { 0 }
-}
-
 // The refusal of the whole call, 0 for none. (44 times the number of cursors might not fit.)
 fn whole(c: Condition, codes: &[u8], cursors: &[u8], room: usize) -> u8
     ensures { λ r. ⌜ r ≡ wholeRefusal c (now (codes .entry)) (now (cursors .entry)) room ⌝ }
 {
     let n = cursors.len();
-    let long = matched(codes, cursors);
-    let formed = c.well_formed();
-    lowest(!long, !((n <= MOST) & formed), room / planner::ROOM < n)
+    if !matched(codes, cursors) {
+        return 1;
+    }
+    if MOST < n {
+        return 3;
+    }
+    if !c.well_formed() {
+        return 3;
+    }
+    if room / planner::ROOM < n {
+        return 10;
+    }
+    0
 }
 
 // The codes of picture k.

@@ -26,7 +26,9 @@ returns c =
     refused _ _ _ _ _ (k .before .before .stop-at .ensures) (λ z. omega (arith, k .if1 .taken)) _ (c .refused .ensures)
 
 put-plans-requires : tie.Need-put-plans-requires
-put-plans-requires c κs = ap (λ (s : Stop). s .refusal) (sym (c .before .before .before .stop-at .ensures)) ∙ c .before .if1 .left
+put-plans-requires c κs =
+    let k = c .before in
+    ap (λ (s : Stop). s .refusal) (sym (k .before .before .stop-at .ensures)) ∙ omega (arith, k .if1 .left)
 
 same-length : tie.Need-same-length
 same-length c = search needs
@@ -34,7 +36,8 @@ same-length c = search needs
 returns-2 : tie.Need-returns-2
 returns-2 c =
     let k = c .before .before .before .before in
-    put _ _ _ _ _ (k .before .before .stop-at .ensures) (k .if1 .left) (rows k) _ _ (c .before .before .put-plans .ensures)
+    put _ _ _ _ _ (k .before .before .stop-at .ensures) (omega (arith, k .if1 .left)) (rows k) _ _
+    (c .before .before .put-plans .ensures)
 
 pub reel-spec : {M : Type 1} → statement M
 reel-spec = tie.close (tie.spec stop-at-requires refused-requires returns put-plans-requires same-length returns-2)
