@@ -34,7 +34,7 @@ extern "C" {
 
 /* The version of the library that this header belongs to. */
 #define SIGN_VERSION_MAJOR 2
-#define SIGN_VERSION_MINOR 3
+#define SIGN_VERSION_MINOR 4
 
 #define SIGN_BLOCK      512   /* bytes of a block */
 #define SIGN_TALLY      16    /* bytes of a tally */
@@ -50,9 +50,9 @@ extern "C" {
    these lines with the compiled code.
      sign_power_up   664
      sign_run        1,272
-     sign_plan       2,405
-     sign_plan_fonts 2,348
-     sign_reel       2,757
+     sign_plan       805
+     sign_plan_fonts 972
+     sign_reel       1,157
      sign_view       656
      sign_dot        560
      sign_underline  544

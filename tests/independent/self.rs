@@ -1,5 +1,6 @@
 //! The independent program alone: the fifteen cases of the bench sheet, the sample, and the rules of
-//! document 01 and of requests W1 to W5 that it can be held to by itself. It uses nothing of the product.
+//! document 01 and of requests W1 to W6 that it can be held to by itself. It uses nothing of the product but the
+//! table of move lengths, which is data.
 
 mod inputs;
 mod module;
@@ -251,9 +252,20 @@ fn worked_examples(r: &mut Report) {
     });
 }
 
-/// The rule of the table of move lengths: 0 exactly from a place to itself, otherwise the least over
-/// first moves of that move's bytes plus the number from where it leads.
+/// The table of move lengths that the product had until it worked them out: rows of 40 digits.
+fn move_table() -> Vec<Vec<usize>> {
+    let sheet = include_str!("../../crates/bench_sheet/specs/MoveSheet.antt");
+    let row = |line: &str| -> Vec<usize> { line.bytes().map(|digit| (digit - b'0') as usize).collect() };
+    sheet.lines().filter_map(|line| line.split("row \"").nth(1)?.strip_suffix('"')).map(row).collect()
+}
+
+/// The table of move lengths has these numbers, and its rule holds: 0 exactly from a place to itself, otherwise
+/// the least over first moves of that move's bytes plus the number from where it leads.
 fn move_rule(r: &mut Report, moves: &Moves) {
+    let table = move_table();
+    r.expect(table.len() == CELLS && table.iter().all(|row| row.len() == CELLS), || {
+        "the move table has not 40 rows of 40 numbers".to_string()
+    });
     let lands = |from: usize, bytes: &[u8]| {
         let mut c = Condition::power_up(0);
         c.cursor = from;
@@ -278,7 +290,10 @@ fn move_rule(r: &mut Report, moves: &Moves) {
                 number == least && number > 0
             };
             r.cases += 1;
-            r.expect(rule && number <= 3, || format!("the move table from {} to {}", a, b));
+            r.expect(rule && number <= 3, || format!("the fewest move bytes from {} to {}", a, b));
+            r.expect(table.get(a).and_then(|row| row.get(b)) == Some(&number), || {
+                format!("the move table from {} to {}", a, b)
+            });
             r.expect(lands(a, moves.path(a, b)) == b, || {
                 format!("the way from {} to {}", a, b)
             });

@@ -1,7 +1,11 @@
 -- The bench sheet holds: computed from the definitions, all fifteen cases under one statement.
-use mathlib.Core.Path.{refl}
+use mathlib.Core.Path.{_≡_, refl, sym, ap, subst, _∙_}
+use mathlib.Core.Bool.{Bool, true, false, cond, _&&_}
+use mathlib.Core.List.{List}
+use Prim.Native.Nat.{ℕ}
+use lib.Dec.{ltb}
 use lib.ListN.{length}
-use borrow.Author.Tests.{eq-eqb, le-leb}
+use borrow.Author.Tests.{eq-eqb, le-leb, ltb-true, ltb-false}
 use Rattle.row.specs.Row.{lineStart, scrolled, shifted}
 use Rattle.users.specs.Users.{roomOf, limitOf, foundIn, isUser, characterAt, putOf, removed, without, withYoungest, defineOf}
 use Rattle.dots.specs.Dots.{dotOf, litUpTo, litOf}
@@ -14,7 +18,7 @@ use Rattle.interpreter.specs.Run.{withinLimit, tallied, runRefusal, runAnswer}
 use Rattle.glass.specs.Shows.{showsCode, showsOf}
 use Rattle.glass.specs.Answers.{lookupOf, dotAnswer, litAnswer}
 use Rattle.condition.specs.Steps.{wrong}
-use Rattle.moves.specs.Moves.{left, next, down, move, near1, near2, dist}
+use Rattle.moves.specs.Moves.{left, next, down, move, near1, near2, dist, fewestOf, Ruled}
 use Rattle.moves.specs.Ways.{leaves, firstByte, pathOf, path}
 use Rattle.planner.specs.Plan.{flagged, planOf, plan}
 use Rattle.planner.specs.Fonts.{wrongFor, switch, fontsPlanOf, fontsPlan}
@@ -26,6 +30,9 @@ use Rattle.bench_sheet.specs.ClearSheet.{clearSheet}
 use Rattle.bench_sheet.specs.TallySheet.{AllCount, tallySheet}
 use Rattle.reel.specs.Reel.{picturesOf, plansOf, firstRefused, wholeRefusal, stopOf}
 use Rattle.bench_sheet.specs.ReelSheet.{reelSheet}
+use Rattle.bench_sheet.specs.MoveSheet.{table, numberIn, Tabled}
+use Rattle.moves.proofs.Grid.{listed, grid, grid-at, grid-right, grid-below}
+use Rattle.moves.proofs.Rule.{ruled}
 
 pub bench : AllHold sheet
 unfolding powerUp runOf stepAt isChar isUser foundIn limitOf roomOf writeOf pushOf rightOf scrollOf scrolled shifted lineStart
@@ -95,3 +102,26 @@ unfolding powerUp runOf stepAt isChar isUser foundIn limitOf roomOf writeOf righ
     lineStart leaves firstByte pathOf path flagged planOf plan clearWins eitherBy onMove lacks someLacks refusalBy planRefusal
     picturesOf plansOf firstRefused wholeRefusal stopOf
 reel-bench = ((refl, refl), (refl, (refl, (refl, ((refl, refl), tt)))))
+
+-- and the table of the move bytes, computed whole
+all-numbers : table ≡ grid dist
+unfolding listed grid left next down lineStart move near1 near2 dist
+all-numbers = refl
+
+-- it answers for any two numbers
+number-is : (a b : ℕ) → numberIn table a b ≡ fewestOf a b
+unfolding fewestOf
+number-is a b = ap (λ (rows : List (List ℕ)). numberIn rows a b) all-numbers ∙ entry (ltb a 40) refl (ltb b 40) refl
+  where
+    entry : (s : Bool) → ltb a 40 ≡ s → (t : Bool) → ltb b 40 ≡ t
+        → numberIn (grid dist) a b ≡ cond (ltb a 40 && ltb b 40) (dist a b) 0
+    entry true h true k = rw (h, k) (grid-at dist 0 a b (ltb-true a 40 h) (ltb-true b 40 k))
+    entry true h false k = rw (h, k) (grid-right dist 0 a b (ltb-true a 40 h) (ltb-false b 40 k))
+    entry false h t k = rw h (grid-below dist 0 a b (ltb-false a 40 h))
+
+pub move-bench : Tabled table
+move-bench =
+    record {
+      same = λ a b r f. f .answer ∙ sym (number-is a b);
+      rule = λ a b ha hb. subst (λ (f : ℕ → ℕ → ℕ). Ruled f a b) (λ i x y. sym (number-is x y) i) (ruled a b ha hb);
+    }

@@ -3,3 +3,4 @@ pub mod FontsSheet
 pub mod ClearSheet
 pub mod TallySheet
 pub mod ReelSheet
+pub mod MoveSheet

@@ -6,7 +6,7 @@ use native.Mathlib.Nat.{add-zero}
 use native.Mathlib.Omega.{arith}
 use lib.ListN.{length, getD, take, drop, set, replicate, length-drop, length-set, length-replicate, take-append-drop}
 use lib.ListN.{List·getD-append, replicate-append-replicate}
-use lib.Seq.{sets, take-all, drop-at, drop-drop, drop-cons, length-take-le, getD-set-same, getD-set-other, getD-append-add}
+use lib.Seq.{sets, take-all, take-at, drop-at, drop-drop, drop-cons, length-take-le, getD-set-same, getD-set-other, getD-append-add}
 
 -- the part of a list from a place on
 pub tail-part : (s : List ℕ) (at : ℕ) → take (length s - at) (drop at s) ≡ drop at s
@@ -20,7 +20,13 @@ part-length at n s h = length-take-le n (drop at s) (simp length-drop (omega ari
 pub cut : (at n : ℕ) (s : List ℕ) → drop at s ≡ take n (drop at s) ++ drop (at + n) s
 cut at n s = rw (← drop-drop n at s) (sym (take-append-drop n (drop at s)))
 
--- what is left of a value that stands n times
+-- the first m of a value that stands n times, and what is left
+pub take-replicate : (m n v : ℕ) → m ≤ n → take m (replicate n v) ≡ replicate m v
+take-replicate m n v h =
+    let s : n ≡ m + (n - m) = omega arith in
+    ap (λ (k : ℕ). take m (replicate k v)) s
+    ∙ rw (← replicate-append-replicate m (n - m) v) (take-at (replicate m v) (replicate (n - m) v) m (length-replicate m v))
+
 pub drop-replicate : (m n v : ℕ) → m ≤ n → drop m (replicate n v) ≡ replicate (n - m) v
 drop-replicate m n v h =
     let s : n ≡ m + (n - m) = omega arith in

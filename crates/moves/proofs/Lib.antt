@@ -2,6 +2,7 @@ pub mod Members
 pub mod Moving
 pub mod Rule
 pub mod Strings
-pub mod Laying
+pub mod Grid
+pub mod Four
+pub mod Put
 pub mod Interpreter
-pub mod Entries

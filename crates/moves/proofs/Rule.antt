@@ -1,19 +1,46 @@
--- The rule of the table (document 01, Planner's steps) holds of the fewest move bytes.
+-- Document 01's rule (Planner's steps) holds of the fewest move bytes; and what they are from a place to itself and to the next.
 use mathlib.Core.Path.{_≡_, refl, sym, ap, _∙_}
 use mathlib.Core.Logic.{_≢_, ⊎-elim}
-use mathlib.Core.Bool.{true}
+use mathlib.Core.Bool.{true, and-false}
 use Prim.Native.Nat.{ℕ, zero, suc, _+_, _≤_, _<_}
 use native.Mathlib.Omega.{arith}
-use lib.Dec.{eqb}
-use borrow.Author.Tests.{lt-ltb, eqb-true, eqb-false}
-use Rattle.laws.proofs.Tests.{by-cases}
-use Rattle.moves.specs.Moves.{any, moves, move, dist, fewestOf, leastUpTo, least, Ruled}
-use Rattle.moves.specs.Ways.{firstByte}
-use Rattle.moves.proofs.Moving.{dist-step, dist-most, dist-self, dist-zero, first-byte, each-move, move-below}
+use lib.Dec.{eqb, ltb}
+use lib.ListN.{length}
+use borrow.Author.Tests.{lt-ltb, le-ltb, ltb-true, ltb-false, eqb-true, eqb-false}
+use Rattle.laws.proofs.Tests.{by-cases, by-test}
+use Rattle.moves.specs.Moves.{any, places, moves, move, dist, fewestOf, leastUpTo, least, Ruled, Fewest}
+use Rattle.moves.specs.Ways.{firstByte, path}
+use Rattle.moves.proofs.Moving.{dist-step, dist-most, dist-self, dist-zero, dist-along, first-byte, each-move}
+use Rattle.moves.proofs.Moving.{move-below, length-path}
 
 pub fewest-is : (a b : ℕ) → a < 40 → b < 40 → fewestOf a b ≡ dist a b
 unfolding fewestOf
 fewest-is a b ha hb = rw (lt-ltb a 40 ha, lt-ltb b 40 hb)
+
+-- from a place to itself, to the next one, and where one of the two is no place
+pub fewest-self : (a b : ℕ) → a ≡ b → fewestOf a b ≡ 0
+unfolding fewestOf
+fewest-self a b e = rw (e, dist-self b) (by-test (λ (n : ℕ). n ≡ 0) (places b b) (λ _. refl) (λ _. refl))
+
+pub fewest-next : (a b : ℕ) → b < 40 → b ≡ a + 1 → fewestOf a b ≡ 1
+fewest-next a b hb e =
+    let far : dist a b ≢ 0 = λ z. omega (arith, dist-zero a b z) in
+    omega (arith, fewest-is a b (omega arith) hb, dist-along a b (omega arith) hb, far)
+
+pub fewest-none-from : (a b : ℕ) → 40 ≤ a → fewestOf a b ≡ 0
+unfolding fewestOf
+fewest-none-from a b h = rw (le-ltb a 40 h)
+
+pub fewest-none-to : (a b : ℕ) → 40 ≤ b → fewestOf a b ≡ 0
+unfolding fewestOf
+fewest-none-to a b h = rw (le-ltb b 40 h, and-false (ltb a 40))
+
+-- more than 0 is between two places alone
+pub fewest-places : (a b : ℕ) → fewestOf a b ≢ 0 → (a < 40) × (b < 40)
+fewest-places a b z =
+    by-cases (ltb a 40)
+    (λ e. by-cases (ltb b 40) (λ h. (ltb-true a 40 e, ltb-true b 40 h)) (λ h. absurd (z (fewest-none-to a b (ltb-false b 40 h)))))
+    (λ e. absurd (z (fewest-none-from a b (ltb-false a 40 e))))
 
 -- the least of all is at most each
 least-at : (f : ℕ → ℕ) (n p : ℕ) → p ≤ n → leastUpTo f n ≤ f p
@@ -67,3 +94,14 @@ module _ (a b : ℕ) (ha : a < 40) (hb : b < 40) where
         otherwise = otherwise (dist a b) refl;
         most = omega (arith, fewest-is a b ha hb, dist-most a b);
       }
+
+pub fewest : (a b r : ℕ) → r ≡ fewestOf a b → Fewest a b r
+fewest a b r e = record { answer = e; rule = ruled a b }
+
+-- two answers that the contract of `number` allows are the same
+pub one-number : (a b r s : ℕ) → Fewest a b r → Fewest a b s → r ≡ s
+one-number a b r s f g = f .answer ∙ sym (g .answer)
+
+-- between two places the answer is the length of the way
+pub fewest-long : (a b r : ℕ) → Fewest a b r → a < 40 → b < 40 → r ≡ length (path a b)
+fewest-long a b r f ha hb = f .answer ∙ fewest-is a b ha hb ∙ sym (length-path a b)

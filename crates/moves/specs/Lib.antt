@@ -1,2 +1,3 @@
 pub mod Moves
 pub mod Ways
+pub mod Kinds

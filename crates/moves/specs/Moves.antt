@@ -4,7 +4,6 @@ use mathlib.Core.Path.{_≡_}
 use mathlib.Core.Logic.{_≢_}
 use mathlib.Core.List.{List, [], _∷_}
 use mathlib.Core.Bool.{Bool, true, false, cond, _&&_, _||_}
-use lib.ListN.{getD}
 use lib.Dec.{eqb, ltb}
 use Rattle.row.specs.Row.{lineStart}
 
@@ -72,7 +71,7 @@ dist a b = rank (eqb a b) (near1 a b) (near2 a b)
 unfoldable pub fewestOf : ℕ → ℕ → ℕ
 fewestOf a b = cond (places a b) (dist a b) 0
 
--- The table's rule -----------------------------------------------------------------------------------------------------------
+-- The rule of the numbers ----------------------------------------------------------------------------------------------------
 
 -- the least that f gives for n, n - 1, .. 0
 unfoldable pub leastUpTo : (ℕ → ℕ) → ℕ → ℕ
@@ -90,32 +89,14 @@ least number a b =
     (min (1 + number (lineStart a) b)
     (leastUpTo (λ p. 3 + number p b) 0x27)))))
 
--- the rule of a table of the fewest move bytes: 0 exactly from a place to itself, otherwise the least over first moves; 0 to 3
+-- the rule of the fewest move bytes: 0 exactly from a place to itself, otherwise the least over first moves; 0 to 3
 pub record Ruled (number : ℕ → ℕ → ℕ) (a b : ℕ) : Type 0 where
   pub itself : a ≡ b → number a b ≡ 0
   pub alone : number a b ≡ 0 → a ≡ b
   pub otherwise : a ≢ b → number a b ≡ least number a b
   pub most : number a b ≤ 3
 
--- The table ------------------------------------------------------------------------------------------------------------------
-
--- f i, f (i + 1), .., n of them
-unfoldable pub listed : {A : Type 0} → (ℕ → A) → ℕ → ℕ → List A
-listed f zero i = []
-listed f (suc n) i = f i ∷ listed f n (suc i)
-
--- the fewest move bytes from each position to each other: row `from`, column `to`
-unfoldable pub numbersOf : List (List ℕ)
-numbersOf = listed (λ a. listed (dist a) 40 0) 40 0
-
-abbrev pub numberIn : List (List ℕ) → ℕ → ℕ → ℕ
-numberIn rows a b = getD (getD rows a []) b 0
-
--- what `numbers` answers, and its rule for every pair of places
-pub record Table (rows : List (List ℕ)) : Type 0 where
-  pub answer : rows ≡ numbersOf
-  pub rule : (a b : ℕ) → a < 40 → b < 40 → Ruled (numberIn rows) a b
-
--- a table that holds the fewest move bytes from each place to each other
-abbrev pub Numbers : List (List ℕ) → Type 0
-Numbers rows = (a b : ℕ) → a < 40 → b < 40 → numberIn rows a b ≡ dist a b
+-- what `number` answers for any two numbers, and document 01's rule for two places
+pub record Fewest (a b r : ℕ) : Type 0 where
+  pub answer : r ≡ fewestOf a b
+  pub rule : a < 40 → b < 40 → Ruled fewestOf a b

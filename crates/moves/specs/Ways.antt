@@ -1,11 +1,12 @@
 -- The way: the move string with the fewest bytes from a place to another, of equals the smallest by first differing byte.
-use Prim.Native.Nat.{ℕ, zero, suc, _≤_}
+use Prim.Native.Nat.{ℕ, zero, suc, _≤_, _<_}
 use mathlib.Core.Path.{_≡_}
 use mathlib.Core.List.{List, [], _∷_}
 use mathlib.Core.Bool.{Bool, true, false, cond, _&&_, _||_}
-use lib.ListN.{length}
+use lib.ListN.{length, take}
 use lib.Dec.{eqb, ltb, leb}
-use Rattle.moves.specs.Moves.{any, find, moves, move, dist}
+use lib.Seq.{sets}
+use Rattle.moves.specs.Moves.{any, find, places, moves, move, dist}
 
 -- the move m from a leaves n bytes to b
 unfoldable pub leaves : ℕ → ℕ → ℕ → ℕ → Bool
@@ -24,6 +25,10 @@ pathOf (suc n) a b =
 
 unfoldable pub path : ℕ → ℕ → List ℕ
 path a b = pathOf (dist a b) a b
+
+-- the same for any two numbers: nothing where one of them is no place
+unfoldable pub wayOf : ℕ → ℕ → List ℕ
+wayOf a b = cond (places a b) (path a b) []
 
 -- Against all move strings ---------------------------------------------------------------------------------------------------
 
@@ -51,3 +56,10 @@ pub record Shortest (a b : ℕ) (bs : List ℕ) : Type 0 where
   pub leads : leadsTo none a b bs ≡ true
   pub fewest : (cs : List ℕ) → leadsTo none a b cs ≡ true → length bs ≤ length cs
   pub smallest : (cs : List ℕ) → leadsTo none a b cs ≡ true → length cs ≡ length bs → atMost bs cs ≡ true
+
+-- what `put_way` promises of its answer r and of the output at exit: the way, as far as there is room, its length, and, of what
+-- stands there between two places, that it is the shortest and of equals the smallest
+pub record PutsWay (a b : ℕ) (before after : List ℕ) (r : ℕ) : Type 0 where
+  pub answer : r ≡ length (wayOf a b)
+  pub output : after ≡ sets before 0 (wayOf a b)
+  pub shortest : 3 ≤ length before → a < 40 → b < 40 → Shortest a b (take r after)

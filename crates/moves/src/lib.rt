@@ -1,15 +1,14 @@
-// The planner's moves: the fewest move bytes between two places. The way itself is in specs/Ways; the planner puts it.
-
+// The planner's moves: where 09h leads, the fewest move bytes between two places, and the way. Both are worked out from the two
+// places, by the four kinds of way (specs/Kinds).
 ghost use mathlib.Core.Path.{_≡_};
-ghost use Rattle.moves.specs.Moves.{next, Table};
+ghost use Prim.Native.Nat.{_<_};
+ghost use Rattle.moves.specs.Moves.{next, dist, Fewest};
+ghost use Rattle.moves.specs.Ways.{PutsWay};
 
-mod table;
+mod bytes;
+mod lengths;
 
 use condition::Condition;
-use table::NUMBERS;
-
-// A number for each place and each other: row `from`, column `to`.
-pub type Distances = [[u8; Condition::CELLS]; Condition::CELLS];
 
 // Where 09h leads in mode 1, and the cursor after a write; 0 from no place.
 pub fn next(p: u8) -> u8
@@ -21,10 +20,35 @@ pub fn next(p: u8) -> u8
     0
 }
 
-// The fewest move bytes from each place to each other. A constant array is made anew where it is used, so the planner asks for it
-// once for each plan and lends it.
-pub fn numbers() -> Distances
-    ensures { λ r. ⌜ Table r ⌝ }
+// The fewest move bytes from a place to another; 0 where one of them is no place.
+pub fn number(from: u8, to: u8) -> u8
+    ensures { λ r. ⌜ Fewest from to r ⌝ }
 {
-    NUMBERS
+    if from == to {
+        return 0;
+    }
+    if Condition::LAST_PLACE < from {
+        return 0;
+    }
+    if Condition::LAST_PLACE < to {
+        return 0;
+    }
+    // As most ways are, in a plan. The rest takes longer to work out.
+    if to == from + 1 {
+        return 1;
+    }
+    lengths::least_of_four(from, to)
+}
+
+// Puts the way from a place to another at the start of out, as far as there is room; answers its length. Nothing is put where one
+// of them is no place.
+pub fn put_way(out: &mut [u8], from: u8, to: u8) -> u8
+    ensures { λ r. ⌜ PutsWay from to (now (out .entry)) (now (out .exit)) r ⌝ }
+{
+    let n = number(from, to);
+    if n == 0 {
+        return 0;
+    }
+    bytes::put_kind(out, n, from, to);
+    n
 }

@@ -8,11 +8,12 @@ use native.Mathlib.Omega.{arith}
 use lib.ListN.{length, getD, length-append}
 use lib.Seq.{sets, length-sets}
 use Rattle.laws.proofs.Lists.{sets-append}
-use Rattle.moves.specs.Moves.{next, dist}
+use Rattle.moves.specs.Moves.{next, Fewest}
 use Rattle.moves.specs.Ways.{path}
 use Rattle.planner.specs.Plan.{flagged}
 use Rattle.planner.specs.Fonts.{switch, fontsPlanOf}
-use Rattle.moves.proofs.Moving.{next-below, length-path}
+use Rattle.moves.proofs.Moving.{next-below}
+use Rattle.moves.proofs.Rule.{fewest-long}
 use Rattle.planner.proofs.Canvas.{wrongIn}
 use Rattle.planner.proofs.Picture.{planOver}
 use Rattle.planner.proofs.Costs.{flagged-yes, flagged-no, flagged-length, cost-far, length-plan}
@@ -101,9 +102,9 @@ module _ (e : Bool) (ws gs cs fs : List ℕ) (q p₀ f₀ : ℕ) where
         (record { upto = omega arith; inside = v .inside; count = rw (← rest-skip p f i h b) (v .count) })
 
     -- the bytes at a wrong cell, by the numbers of the moves and of the switch
-    pub count-sum : (way more : ℕ) → way ≡ dist p i → more ≡ length (switch e f (getD gs i 0))
+    pub count-sum : (way more : ℕ) → Fewest p i way → more ≡ length (switch e f (getD gs i 0)) → i < 40
         → k + way + more + 1 ≡ k + (length (path p i) + length (written f i))
-    count-sum way more w m = omega (arith, w, m, length-path p i, written-length f i)
+    count-sum way more w m h = omega (arith, fewest-long p i way w (v .inside) h, m, written-length f i)
 
     pub count-room : i < 40 → bad i ≡ true → k + (length (path p i) + length (written f i)) ≤ k₀ + length planIn
     count-room h b = omega (arith, v .count, rest-length p f i h b)

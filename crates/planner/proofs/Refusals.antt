@@ -1,5 +1,5 @@
 -- What a refusal number says: 0 that the condition can be planned from, any other that nothing changes.
-use mathlib.Core.Path.{_≡_, refl, sym, ap, subst⁻¹, _∙_}
+use mathlib.Core.Path.{_≡_, refl, sym, ap, _∙_}
 use mathlib.Core.Bool.{Bool, true, false, not, _&&_, _||_}
 use mathlib.Core.List.{List, [], _∷_}
 use Prim.Native.Nat.{ℕ, zero, suc, _≤_, _<_}
@@ -19,8 +19,7 @@ use Rattle.condition.proofs.Characters.{plain-char, user-char, no-char}
 use Rattle.condition.proofs.Good.{good, formed, Sized}
 use Rattle.condition.proofs.Kept.{cells-kept, cursor-kept}
 use Rattle.condition.proofs.Ranges.{up-to-at, up-to-replicate}
-use Rattle.moves.specs.Moves.{any, moves, numbersOf, Numbers}
-use Rattle.moves.proofs.Entries.{numbers-right}
+use Rattle.moves.specs.Moves.{any, moves}
 use Rattle.moves.proofs.Moving.{each-move}
 use Rattle.moves.proofs.Interpreter.{ready}
 use Rattle.planner.specs.declared.Planned.{Planned}
@@ -236,10 +235,6 @@ fonts-given c wanted fonts asked t =
       cursor-40 = u .cursor-40;
       asked-40 = u .asked-40;
     }
-
--- the table that is lent is that of the moves
-pub right-numbers : (table : List (List ℕ)) → table ≡ numbersOf → Numbers table
-right-numbers table e = subst⁻¹ (λ (rows : List (List ℕ)). Numbers rows) e numbers-right
 
 -- Answers -------------------------------------------------------------------------------------------------------------------------
 

@@ -2,19 +2,27 @@
 use crate::cells::codes_at;
 use crate::cells::differs;
 use crate::cells::fonts_at;
-use crate::ways::put_way;
+use crate::counts::clear_wins;
 use condition::Condition;
-use moves::Distances;
 ghost use mathlib.Core.Path.{_≡_};
 ghost use mathlib.Core.List.{[], _∷_, _++_};
 ghost use Prim.Native.Nat.{_+_, _<_, _≤_};
 ghost use lib.ListN.{length};
 ghost use lib.Seq.{sets};
-ghost use Rattle.moves.specs.Moves.{Numbers};
+ghost use Rattle.moves.specs.Ways.{path};
 ghost use Rattle.planner.specs.Plan.{atStart};
 ghost use Rattle.planner.specs.Fonts.{switch};
-ghost use Rattle.planner.specs.Clear.{clearing, fontsBy};
+ghost use Rattle.planner.specs.Clear.{clearing, fontsBy, eitherFontsPlan};
 ghost use Rattle.planner.specs.Given.{Given};
+
+// Puts the way from p to q at k; answers the place behind it.
+fn put_way(out: &mut [u8], k: usize, p: u8, q: u8) -> usize
+    requires { ⌜ (p < 40) × (q < 40) × (k + length (path p q) ≤ length (now out)) ⌝ }
+    ensures { λ r. ⌜ (r ≡ k + length (path p q)) × (now (out .exit) ≡ sets (now (out .entry)) k (path p q)) ⌝ }
+{
+    let n = moves::put_way(&mut out[k..], p, q);
+    k + n as usize
+}
 
 // Puts the switch from a font to another at k; answers the place behind it.
 fn put_switch(out: &mut [u8], k: usize, euro: bool, from: u8, to: u8) -> usize
@@ -61,8 +69,7 @@ fn put_clear(out: &mut [u8], clear: bool) -> usize
 }
 
 // Puts the plan for the wanted codes in the wanted fonts at the start of out, with the clear or without it; answers its length.
-pub(crate) fn put_plan(
-    table: &Distances,
+fn put_plan(
     c: Condition,
     clear: bool,
     wanted: &[u8],
@@ -70,7 +77,7 @@ pub(crate) fn put_plan(
     asked: u8,
     out: &mut [u8],
 ) -> usize
-    requires { ⌜ Given c (now wanted) (now fonts) asked × Numbers (now table)
+    requires { ⌜ Given c (now wanted) (now fonts) asked
         × (length (fontsBy clear c (now wanted) (now fonts) asked) ≤ length (now out)) ⌝ }
     ensures { λ r. ⌜ (r ≡ length (fontsBy clear c (now (wanted .entry)) (now (fonts .entry)) asked))
         × (now (out .exit) ≡ atStart (fontsBy clear c (now (wanted .entry)) (now (fonts .entry)) asked) (now (out .entry))) ⌝ }
@@ -87,12 +94,29 @@ pub(crate) fn put_plan(
         let code = wanted[j];
         let font = fonts[j];
         if differs(codes[j], standing[j], code, font) {
-            let at = put_way(table, out, k, p, i);
+            let at = put_way(out, k, p, i);
             k = put_code(out, at, euro, selected, font, code);
             p = moves::next(i);
             selected = font;
         }
         i += 1;
     }
-    put_way(table, out, k, p, asked)
+    put_way(out, k, p, asked)
+}
+
+// Puts the plan at the start of out: with the clear where that is shorter, else without it. Answers its length.
+pub(crate) fn put_either(
+    c: Condition,
+    wanted: &[u8],
+    fonts: &[u8],
+    asked: u8,
+    out: &mut [u8],
+) -> usize
+    requires { ⌜ Given c (now wanted) (now fonts) asked
+        × (length (eitherFontsPlan c (now wanted) (now fonts) asked) ≤ length (now out)) ⌝ }
+    ensures { λ r. ⌜ (r ≡ length (eitherFontsPlan c (now (wanted .entry)) (now (fonts .entry)) asked))
+        × (now (out .exit) ≡ atStart (eitherFontsPlan c (now (wanted .entry)) (now (fonts .entry)) asked) (now (out .entry))) ⌝ }
+{
+    let clear = clear_wins(c, wanted, fonts, asked);
+    put_plan(c, clear, wanted, fonts, asked, out)
 }

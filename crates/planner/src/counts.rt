@@ -3,12 +3,9 @@ use crate::cells::codes_at;
 use crate::cells::differs;
 use crate::cells::fonts_at;
 use crate::checks::is_user;
-use crate::ways::number;
 use condition::Condition;
-use moves::Distances;
 ghost use mathlib.Core.Path.{_≡_};
 ghost use lib.ListN.{length};
-ghost use Rattle.moves.specs.Moves.{Numbers};
 ghost use Rattle.planner.specs.Fonts.{switch, fontsPlan};
 ghost use Rattle.planner.specs.Clear.{clearWins, fontsBy};
 ghost use Rattle.planner.specs.Given.{Given};
@@ -27,15 +24,8 @@ fn switch_length(euro: bool, from: u8, to: u8) -> u8
 }
 
 // The length of the plan for the wanted codes in the wanted fonts, with the clear or without it.
-fn count_plan(
-    table: &Distances,
-    c: Condition,
-    clear: bool,
-    wanted: &[u8],
-    fonts: &[u8],
-    asked: u8,
-) -> u8
-    requires { ⌜ Given c (now wanted) (now fonts) asked × Numbers (now table) ⌝ }
+fn count_plan(c: Condition, clear: bool, wanted: &[u8], fonts: &[u8], asked: u8) -> u8
+    requires { ⌜ Given c (now wanted) (now fonts) asked ⌝ }
     ensures { λ r. ⌜ r ≡ length (fontsBy clear c (now (wanted .entry)) (now (fonts .entry)) asked) ⌝ }
 {
     let codes = codes_at(c, clear);
@@ -50,7 +40,7 @@ fn count_plan(
         let i = j as u8;
         let font = fonts[j];
         if differs(codes[j], standing[j], wanted[j], font) {
-            let way = number(table, p, i);
+            let way = moves::number(p, i);
             let more = switch_length(euro, selected, font);
             n = n + way + more + 1;
             p = moves::next(i);
@@ -58,19 +48,13 @@ fn count_plan(
         }
         j += 1;
     }
-    let last = number(table, p, asked);
+    let last = moves::number(p, asked);
     n + last
 }
 
 // The plan with the clear is shorter, and no user character sits on 0Eh.
-pub(crate) fn clear_wins(
-    table: &Distances,
-    c: Condition,
-    wanted: &[u8],
-    fonts: &[u8],
-    asked: u8,
-) -> bool
-    requires { ⌜ Given c (now wanted) (now fonts) asked × Numbers (now table) ⌝ }
+pub(crate) fn clear_wins(c: Condition, wanted: &[u8], fonts: &[u8], asked: u8) -> bool
+    requires { ⌜ Given c (now wanted) (now fonts) asked ⌝ }
     ensures { λ r. ⌜ r ≡ clearWins (λ d. fontsPlan d (now (wanted .entry)) (now (fonts .entry)) asked) c ⌝ }
 {
     let u = c.users;
@@ -78,7 +62,7 @@ pub(crate) fn clear_wins(
     if is_user(&bytes, u.count, 0x0E) {
         return false;
     }
-    let plain = count_plan(table, c, false, wanted, fonts, asked);
-    let cleared = count_plan(table, c, true, wanted, fonts, asked);
+    let plain = count_plan(c, false, wanted, fonts, asked);
+    let cleared = count_plan(c, true, wanted, fonts, asked);
     cleared < plain
 }

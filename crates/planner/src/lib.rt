@@ -7,7 +7,6 @@ mod bytes;
 mod cells;
 mod checks;
 mod counts;
-mod ways;
 
 // The least room for a plan in one font, and for one in two: no plan is longer.
 pub const ROOM: usize = 44;
@@ -41,10 +40,7 @@ pub fn plan(c: Condition, wanted: &[u8], asked: u32, out: &mut [u8]) -> Planned
         };
     }
     let fonts = [c.font; Condition::CELLS];
-    // The table is made on the stack. With these two calls in one function between, the compiler would keep it twice.
-    let table = moves::numbers();
-    let clear = counts::clear_wins(&table, c, wanted, &fonts, asked as u8);
-    let k = bytes::put_plan(&table, c, clear, wanted, &fonts, asked as u8, out);
+    let k = bytes::put_either(c, wanted, &fonts, asked as u8, out);
     Planned {
         refusal: 0,
         length: k as u8,
@@ -64,10 +60,7 @@ pub fn plan_fonts(c: Condition, wanted: &[u8], fonts: &[u8], asked: u32, out: &m
             length: 0,
         };
     }
-    // As in plan.
-    let table = moves::numbers();
-    let clear = counts::clear_wins(&table, c, wanted, fonts, asked as u8);
-    let k = bytes::put_plan(&table, c, clear, wanted, fonts, asked as u8, out);
+    let k = bytes::put_either(c, wanted, fonts, asked as u8, out);
     Planned {
         refusal: 0,
         length: k as u8,

@@ -7,9 +7,8 @@ use Rattle.condition.specs.Steps.{eitherStart}
 use Rattle.planner.specs.Plan.{Delivers}
 use Rattle.planner.specs.Clear.{eitherPlan, eitherFontsPlan}
 use Rattle.planner.specs.Answer.{planRefusal}
-use Rattle.planner.proofs.Clear.{either-is}
 use Rattle.planner.proofs.Demand.{either-one-font}
-use Rattle.planner.proofs.Refusals.{Accepted, accepted, plan-delivers, plan-given, right-numbers, refused, taken-on}
+use Rattle.planner.proofs.Refusals.{Accepted, accepted, plan-delivers, plan-given, refused, taken-on}
 use borrow.Author.Needs.{needs}
 use Rattle.planner.proofs.plan.Statement.{statement}
 use Rattle.planner.proofs.plan.Tie as tie
@@ -57,48 +56,29 @@ of-plan-requires c κs = search needs
 returns : tie.Need-returns
 returns c = refused _ _ _ _ _ (c .before .of-plan .ensures) (c .if1 .taken)
 
-numbers-requires : tie.Need-numbers-requires
-numbers-requires c κs = search needs
+slice-aggregate-put-either : tie.Need-slice-aggregate-put-either
+slice-aggregate-put-either c = search needs
 
-slice-aggregate-clear-wins : tie.Need-slice-aggregate-clear-wins
-slice-aggregate-clear-wins c = search needs
+cast-put-either : tie.Need-cast-put-either
+cast-put-either c = omega (arith, accepts (c .before) .0 .asked-40)
 
-cast-clear-wins : tie.Need-cast-clear-wins
-cast-clear-wins c = omega (arith, accepts (c .before .before .before) .0 .asked-40)
+put-either-requires : tie.Need-put-either-requires
+put-either-requires c κs =
+    let f = c .before .before in
+    (plan-given _ _ _ (accepts f .0), omega (arith, ap length (same f), delivered f .most, accepts f .1))
 
-clear-wins-requires : tie.Need-clear-wins-requires
-clear-wins-requires c κs =
-    (plan-given _ _ _ (accepts (c .before .before .before) .0), right-numbers _ (c .before .before .numbers .ensures .answer))
-
-slice-aggregate-put-plan : tie.Need-slice-aggregate-put-plan
-slice-aggregate-put-plan c = search needs
-
-cast-put-plan : tie.Need-cast-put-plan
-cast-put-plan c = omega (arith, accepts (c .before .before .before .before .before .before) .0 .asked-40)
-
-put-plan-requires : tie.Need-put-plan-requires
-put-plan-requires c κs =
-    let f = c .before .before .before .before .before .before .before in
-    let t = accepts f in (
-      plan-given _ _ _ (t .0),
-      right-numbers _ (c .before .before .before .before .before .before .numbers .ensures .answer),
-      omega (arith, ap length (either-is _ _ _ (c .before .before .before .clear-wins .ensures) ∙ same f), delivered f .most, t .1),
-    )
-
-cast-t16 : tie.Need-cast-t16
-cast-t16 c =
-    let f = c .before .before .before .before .before .before .before .before .before .before in
-    let wins = c .before .before .before .before .before .before .clear-wins .ensures in
-    omega (arith, c .before .before .put-plan .ensures .0, ap length (either-is _ _ _ wins ∙ same f), delivered f .most)
+cast-t12 : tie.Need-cast-t12
+cast-t12 c =
+    let f = c .before .before .before .before .before in
+    omega (arith, c .before .before .put-either .ensures .0, ap length (same f), delivered f .most)
 
 same-length : tie.Need-same-length
 same-length c = search needs
 
 returns-2 : tie.Need-returns-2
 returns-2 c =
-    let f = c .before .before .before .before .before .before .before .before .before .before in
-    let wins = c .before .before .before .before .before .before .clear-wins .ensures in
-    taken-on _ _ _ _ _ _ _ (unrefused f) (delivered f) (c .before .before .put-plan .ensures) (either-is _ _ _ wins ∙ same f)
+    let f = c .before .before .before .before .before in
+    taken-on _ _ _ _ _ _ _ (unrefused f) (delivered f) (c .before .before .put-either .ensures) (same f)
 
 pub plan-spec : {M : Type 1} → statement M
 plan-spec =
@@ -106,13 +86,9 @@ plan-spec =
     (tie.spec
     of-plan-requires
     returns
-    numbers-requires
-    slice-aggregate-clear-wins
-    cast-clear-wins
-    clear-wins-requires
-    slice-aggregate-put-plan
-    cast-put-plan
-    put-plan-requires
-    cast-t16
+    slice-aggregate-put-either
+    cast-put-either
+    put-either-requires
+    cast-t12
     same-length
     returns-2)

@@ -1,4 +1,4 @@
-use mathlib.Core.Path.{_≡_, sym, ap, _∙_}
+use mathlib.Core.Path.{_≡_, refl, sym, _∙_}
 use mathlib.Core.Bool.{true}
 use Prim.Native.Nat.{_≤_}
 use native.Mathlib.Omega.{arith}
@@ -7,8 +7,7 @@ use Rattle.condition.specs.Steps.{eitherStart}
 use Rattle.planner.specs.Fonts.{FontsDelivers}
 use Rattle.planner.specs.Clear.{eitherFontsPlan}
 use Rattle.planner.specs.Answer.{fontsRefusal}
-use Rattle.planner.proofs.Clear.{either-is}
-use Rattle.planner.proofs.Refusals.{FontsAccepted, fonts-accepted, fonts-plan-delivers, fonts-given, right-numbers}
+use Rattle.planner.proofs.Refusals.{FontsAccepted, fonts-accepted, fonts-plan-delivers, fonts-given}
 use Rattle.planner.proofs.Refusals.{refused, taken-on}
 use borrow.Author.Needs.{needs}
 use Rattle.planner.proofs.plan_fonts.Statement.{statement}
@@ -49,42 +48,26 @@ of-fonts-requires c κs = search needs
 returns : tie.Need-returns
 returns c = refused _ _ _ _ _ (c .before .of-fonts .ensures) (c .if1 .taken)
 
-numbers-requires : tie.Need-numbers-requires
-numbers-requires c κs = search needs
+cast-put-either : tie.Need-cast-put-either
+cast-put-either c = omega (arith, accepts c .0 .codes .asked-40)
 
-cast-clear-wins : tie.Need-cast-clear-wins
-cast-clear-wins c = omega (arith, accepts (c .before .before) .0 .codes .asked-40)
+put-either-requires : tie.Need-put-either-requires
+put-either-requires c κs =
+    let f = c .before in
+    (fonts-given _ _ _ _ (accepts f .0), omega (arith, delivered f .most, accepts f .1))
 
-clear-wins-requires : tie.Need-clear-wins-requires
-clear-wins-requires c κs =
-    (fonts-given _ _ _ _ (accepts (c .before .before) .0), right-numbers _ (c .before .numbers .ensures .answer))
-
-cast-put-plan : tie.Need-cast-put-plan
-cast-put-plan c = omega (arith, accepts (c .before .before .before .before) .0 .codes .asked-40)
-
-put-plan-requires : tie.Need-put-plan-requires
-put-plan-requires c κs =
-    let f = c .before .before .before .before .before in
-    let t = accepts f in (
-      fonts-given _ _ _ _ (t .0),
-      right-numbers _ (c .before .before .before .before .numbers .ensures .answer),
-      omega (arith, ap length (either-is _ _ _ (c .before .before .clear-wins .ensures)), delivered f .most, t .1),
-    )
-
-cast-t14 : tie.Need-cast-t14
-cast-t14 c =
-    let wins = c .before .before .before .before .before .clear-wins .ensures in
-    let f = c .before .before .before .before .before .before .before .before in
-    omega (arith, c .before .before .put-plan .ensures .0, ap length (either-is _ _ _ wins), delivered f .most)
+cast-t10 : tie.Need-cast-t10
+cast-t10 c =
+    let f = c .before .before .before .before in
+    omega (arith, c .before .before .put-either .ensures .0, delivered f .most)
 
 same-length : tie.Need-same-length
 same-length c = search needs
 
 returns-2 : tie.Need-returns-2
 returns-2 c =
-    let f = c .before .before .before .before .before .before .before .before in
-    let wins = c .before .before .before .before .before .clear-wins .ensures in
-    taken-on _ _ _ _ _ _ _ (unrefused f) (delivered f) (c .before .before .put-plan .ensures) (either-is _ _ _ wins)
+    let f = c .before .before .before .before in
+    taken-on _ _ _ _ _ _ _ (unrefused f) (delivered f) (c .before .before .put-either .ensures) refl
 
 pub plan-fonts-spec : {M : Type 1} → statement M
 plan-fonts-spec =
@@ -92,11 +75,8 @@ plan-fonts-spec =
     (tie.spec
     of-fonts-requires
     returns
-    numbers-requires
-    cast-clear-wins
-    clear-wins-requires
-    cast-put-plan
-    put-plan-requires
-    cast-t14
+    cast-put-either
+    put-either-requires
+    cast-t10
     same-length
     returns-2)

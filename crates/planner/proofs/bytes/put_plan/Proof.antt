@@ -10,11 +10,11 @@ use Rattle.planner.proofs.bytes.put_plan.Statement.{statement}
 use Rattle.planner.proofs.bytes.put_plan.Tie as tie
 
 abbrev Inv-loop : tie.InvT-loop
-Inv-loop table clear wanted fonts asked out₀ codes standing euro p₀ selected₀ k₀ i₀ out p selected k i =
+Inv-loop clear wanted fonts asked out₀ codes standing euro p₀ selected₀ k₀ i₀ out p selected k i =
     Planning euro wanted fonts codes standing asked p₀ selected₀ k₀ out₀ out p selected k i
 
 abbrev μ-loop : tie.MeasureT-loop
-μ-loop table clear wanted fonts asked out₀ codes standing euro p₀ selected₀ k₀ i₀ out p selected k i = 40 - i
+μ-loop clear wanted fonts asked out₀ codes standing euro p₀ selected₀ k₀ i₀ out p selected k i = 40 - i
 
 -- What is put is the plan ---------------------------------------------------------------------------------------------------------
 
@@ -23,7 +23,7 @@ loop-holds c =
     let f = c .before .before .before .before in
     let a = f .before .before .before .before .before in
     plan-start _ _ _ _ _ _ _ _ _ _ (a .pre .0 .cursor-40)
-    (room-by (a .args .clear) _ _ _ _ _ _ (f .before .codes-at .ensures) (f .fonts-at .ensures) _ _ _ (a .pre .2)
+    (room-by (a .args .clear) _ _ _ _ _ _ (f .before .codes-at .ensures) (f .fonts-at .ensures) _ _ _ (a .pre .1)
     (c .before .before .put-clear .ensures))
 
 loop-again : tie.Need-loop-again Inv-loop μ-loop
@@ -43,7 +43,7 @@ returns c =
     let f = c .before .before .before .before .before .before .before .before .before .before in
     let a = f .before .before .before .before .before in
     let d = c .before .before .before .before .before .before .before .before .put-clear .ensures in
-    put-by (a .args .clear) _ _ _ _ _ _ (f .before .codes-at .ensures) (f .fonts-at .ensures) _ _ _ _ _ (a .pre .2) d
+    put-by (a .args .clear) _ _ _ _ _ _ (f .before .codes-at .ensures) (f .fonts-at .ensures) _ _ _ _ _ (a .pre .1) d
     (plan-end _ _ _ _ _ _ _ _ v _ _ (search needs) (c .before .before .put-way2 .ensures))
 
 -- What the calls ask for ----------------------------------------------------------------------------------------------------------
@@ -58,7 +58,7 @@ put-clear-requires : tie.Need-put-clear-requires Inv-loop μ-loop
 put-clear-requires c κs =
     let f = c .before in
     let a = f .before .before .before .before .before in
-    clear-room (a .args .clear) _ _ _ _ _ _ (f .before .codes-at .ensures) (f .fonts-at .ensures) _ (a .pre .2)
+    clear-room (a .args .clear) _ _ _ _ _ _ (f .before .codes-at .ensures) (f .fonts-at .ensures) _ (a .pre .1)
 
 cast-j : tie.Need-cast-j Inv-loop μ-loop
 cast-j c = search needs
@@ -83,8 +83,7 @@ unfolding wrongIn
 put-way-requires c κs =
     let f = c .before .before .before .before .before .before in
     let w = sym (c .before .before .differs .ensures) ∙ c .before .if1 .taken in
-    let given = f .before .before .before .before .before .before .before .before .before .before .pre in
-    (f .loop .inv .counting .inside, search needs, way-room _ _ _ _ _ _ _ _ (f .loop .inv) (search needs) w, given .1)
+    (f .loop .inv .counting .inside, search needs, way-room _ _ _ _ _ _ _ _ (f .loop .inv) (search needs) w)
 
 put-code-requires : tie.Need-put-code-requires Inv-loop μ-loop
 unfolding wrongIn
@@ -106,8 +105,7 @@ loop-less c = search needs
 put-way-requires-2 : tie.Need-put-way-requires-2 Inv-loop μ-loop
 put-way-requires-2 c κs =
     let v = c .before .before .loop .inv in
-    let given = c .before .before .before .before .before .before .before .before .before .before .before .before .pre in
-    (v .counting .inside, search needs, end-room _ _ _ _ _ _ _ _ v (search needs), given .1)
+    (v .counting .inside, search needs, end-room _ _ _ _ _ _ _ _ v (search needs))
 
 same-length : tie.Need-same-length Inv-loop μ-loop
 same-length c =

@@ -3,7 +3,7 @@ use mathlib.Core.Logic.{⊎-elim}
 use Prim.Native.Nat.{ℕ, _+_, _-_, _<_}
 use native.Mathlib.Omega.{arith}
 use borrow.Author.Needs.{needs}
-use Rattle.moves.proofs.Moving.{length-path}
+use Rattle.moves.proofs.Rule.{fewest-long}
 use Rattle.planner.proofs.Canvas.{wrongIn}
 use Rattle.planner.proofs.Counting.{Counting, count-start, count-skip, count-sum, count-fits, count-write, count-end}
 use Rattle.planner.proofs.Counting.{end-fits}
@@ -12,16 +12,16 @@ use Rattle.planner.proofs.counts.count_plan.Statement.{statement}
 use Rattle.planner.proofs.counts.count_plan.Tie as tie
 
 abbrev Inv-loop : tie.InvT-loop
-Inv-loop table clear wanted fonts asked codes standing euro p₀ selected₀ n₀ j₀ p selected n j =
+Inv-loop clear wanted fonts asked codes standing euro p₀ selected₀ n₀ j₀ p selected n j =
     Counting euro wanted fonts codes standing asked p₀ selected₀ n₀ p selected n j
 
 abbrev μ-loop : tie.MeasureT-loop
-μ-loop table clear wanted fonts asked codes standing euro p₀ selected₀ n₀ j₀ p selected n j = 40 - j
+μ-loop clear wanted fonts asked codes standing euro p₀ selected₀ n₀ j₀ p selected n j = 40 - j
 
 -- What is counted is the plan -----------------------------------------------------------------------------------------------------
 
 loop-holds : tie.Need-loop-holds Inv-loop μ-loop
-loop-holds c = count-start _ _ _ _ _ _ _ _ _ (c .before .before .before .before .pre .0 .cursor-40)
+loop-holds c = count-start _ _ _ _ _ _ _ _ _ (c .before .before .before .before .pre .cursor-40)
 
 loop-again : tie.Need-loop-again Inv-loop μ-loop
 unfolding wrongIn
@@ -30,7 +30,7 @@ loop-again c =
     let d = c .before .differs .ensures in
     ⊎-elim
     (λ w.
-    let sum = count-sum _ _ _ _ _ _ _ _ v _ _ (w .1 .ensures) (w .2 .ensures) in
+    let sum = count-sum _ _ _ _ _ _ _ _ v _ _ (w .1 .ensures) (w .2 .ensures) (search needs) in
     count-write _ _ _ _ _ _ _ _ v _ _ _ (search needs) (sym d ∙ w .0 .taken) (w .6 ∙ sum) (w .4 ∙ w .3 .ensures) (w .5))
     (λ w. count-skip _ _ _ _ _ _ _ _ v _ _ _ (search needs) (sym d ∙ w .0 .left) (w .1) (w .2) (w .3))
     (c .if1 .came)
@@ -39,7 +39,7 @@ returns : tie.Need-returns Inv-loop μ-loop
 returns c =
     let f = c .before .before .before in
     let v = c .before .before .loop .inv in
-    rw (c .number2 .ensures, ← length-path)
+    rw (fewest-long _ _ _ (c .number2 .ensures) (v .inside) (f .before .before .before .before .pre .asked-40))
     (count-by (f .before .before .before .before .args .clear) _ _ _ _ _ _ (f .before .codes-at .ensures) (f .fonts-at .ensures) _
     (count-end _ _ _ _ _ _ _ _ v (search needs)))
 
@@ -55,7 +55,7 @@ fits c =
     let f = c .before .before in
     let v = f .before .before .before .before .before .loop .inv in
     let one = clear-most (f .before .before .before .before .before .before .before .before .before .before .args .clear) in
-    let sum = count-sum _ _ _ _ _ _ _ _ v _ _ (c .before .number .ensures) (c .switch-length .ensures) in
+    let sum = count-sum _ _ _ _ _ _ _ _ v _ _ (c .before .number .ensures) (c .switch-length .ensures) (search needs) in
     rw sum (count-fits _ _ _ _ _ _ _ _ v one (search needs) (sym (f .before .differs .ensures) ∙ f .if1 .taken))
 
 -- What the calls ask for ----------------------------------------------------------------------------------------------------------
@@ -88,10 +88,7 @@ differs-requires : tie.Need-differs-requires Inv-loop μ-loop
 differs-requires c κs = search needs
 
 number-requires : tie.Need-number-requires Inv-loop μ-loop
-number-requires c κs =
-    let v = c .before .before .before .before .before .loop .inv in
-    let given = c .before .before .before .before .before .before .before .before .before .before .pre in
-    (v .inside, search needs, given .1)
+number-requires c κs = search needs
 
 switch-length-requires : tie.Need-switch-length-requires Inv-loop μ-loop
 switch-length-requires c κs = search needs
@@ -115,16 +112,14 @@ loop-less : tie.Need-loop-less Inv-loop μ-loop
 loop-less c = search needs
 
 number-requires-2 : tie.Need-number-requires-2 Inv-loop μ-loop
-number-requires-2 c κs =
-    let v = c .before .loop .inv in
-    let given = c .before .before .before .before .before .before .pre in
-    (v .inside, given .0 .asked-40, given .1)
+number-requires-2 c κs = search needs
 
 add-result : tie.Need-add-result Inv-loop μ-loop
 add-result c =
     let v = c .before .before .loop .inv in
-    let one = clear-most (c .before .before .before .before .before .before .before .args .clear) in
-    rw (c .number2 .ensures, ← length-path) (omega (arith, end-fits _ _ _ _ _ _ _ _ v one (search needs)))
+    let given = c .before .before .before .before .before .before .before in
+    let last = fewest-long _ _ _ (c .number2 .ensures) (v .inside) (given .pre .asked-40) in
+    omega (arith, last, end-fits _ _ _ _ _ _ _ _ v (clear-most (given .args .clear)) (search needs))
 
 pub count-plan-spec : {M : Type 1} → statement M
 count-plan-spec =

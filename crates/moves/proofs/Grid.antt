@@ -1,0 +1,51 @@
+-- Values for each place and each other, which are computed whole: row `from`, column `to`.
+use mathlib.Core.Path.{_≡_, refl, sym, ap, _∙_}
+use mathlib.Core.List.{List, [], _∷_}
+use Prim.Native.Nat.{ℕ, zero, suc, _+_, _<_, _≤_}
+use native.Mathlib.Omega.{arith}
+use native.Mathlib.Nat.{add-zero, zero-add, add-suc, suc-add}
+use lib.ListN.{getD}
+
+-- f i, f (i + 1), .., n of them
+unfoldable pub listed : {A : Type 0} → (ℕ → A) → ℕ → ℕ → List A
+listed f zero i = []
+listed f (suc n) i = f i ∷ listed f n (suc i)
+
+unfoldable pub grid : {A : Type 0} → (ℕ → ℕ → A) → List (List A)
+grid f = listed (λ a. listed (f a) 40 0) 40 0
+
+-- an element of such a list, and what stands behind its end
+listed-at : {A : Type 0} (f : ℕ → A) (d : A) (n i k : ℕ) → k < n → getD (listed f n i) k d ≡ f (i + k)
+unfolding listed
+listed-at f d zero i k h = let z : ⊥ = omega arith in absurd z
+listed-at f d (suc n) i zero h = ap f (sym (add-zero i))
+listed-at f d (suc n) i (suc k) h = listed-at f d n (suc i) k (omega arith) ∙ ap f (suc-add i k ∙ sym (add-suc i k))
+
+listed-past : {A : Type 0} (f : ℕ → A) (d : A) (n i k : ℕ) → n ≤ k → getD (listed f n i) k d ≡ d
+unfolding listed
+listed-past f d zero i k h = refl
+listed-past f d (suc n) i zero h = let z : ⊥ = omega arith in absurd z
+listed-past f d (suc n) i (suc k) h = listed-past f d n (suc i) k (omega arith)
+
+module _ {A : Type 0} (f : ℕ → ℕ → A) (d : A) where
+  pub grid-at : (a b : ℕ) → a < 40 → b < 40 → getD (getD (grid f) a []) b d ≡ f a b
+  unfolding grid
+  grid-at a b ha hb =
+      ap (λ (row : List A). getD row b d) (listed-at (λ x. listed (f x) 40 0) [] 40 0 a ha)
+      ∙ listed-at (f (0 + a)) d 40 0 b hb ∙ rw (zero-add a, zero-add b)
+
+  -- behind the end of a row, and behind the last one
+  pub grid-right : (a b : ℕ) → a < 40 → 40 ≤ b → getD (getD (grid f) a []) b d ≡ d
+  unfolding grid
+  grid-right a b ha hb =
+      ap (λ (row : List A). getD row b d) (listed-at (λ x. listed (f x) 40 0) [] 40 0 a ha)
+      ∙ listed-past (f (0 + a)) d 40 0 b hb
+
+  pub grid-below : (a b : ℕ) → 40 ≤ a → getD (getD (grid f) a []) b d ≡ d
+  unfolding grid
+  grid-below a b ha = ap (λ (row : List A). getD row b d) (listed-past (λ x. listed (f x) 40 0) [] 40 0 a ha)
+
+-- two that are the same as grids are the same for each place and each other
+pub same-at : {A : Type 0} (f g : ℕ → ℕ → A) (d : A) → grid f ≡ grid g → (a b : ℕ) → a < 40 → b < 40 → f a b ≡ g a b
+same-at {A} f g d e a b ha hb =
+    sym (grid-at f d a b ha hb) ∙ ap (λ (rows : List (List A)). getD (getD rows a []) b d) e ∙ grid-at g d a b ha hb

@@ -1,0 +1,46 @@
+-- The four kinds of way. Each is worked out from the two places by their lines and columns; the way is the shortest of the four.
+use Prim.Native.Nat.{ℕ, _+_, _-_, _/_, _%_}
+use mathlib.Core.List.{List, [], _∷_, _++_}
+use mathlib.Core.Bool.{cond}
+use lib.ListN.{length, replicate}
+use lib.Dec.{eqb, ltb, leb}
+
+abbrev pub line : ℕ → ℕ
+line p = p / 20
+
+abbrev pub column : ℕ → ℕ
+column p = p % 20
+
+-- how far two numbers are apart
+abbrev pub apart : ℕ → ℕ → ℕ
+apart a b = (a - b) + (b - a)
+
+-- onward: 09h for each place; 39 goes to 0
+unfoldable pub onward : ℕ → ℕ → List ℕ
+onward a b = replicate ((b + 40 - a) % 40) 0x09
+
+-- sideways: 08h or 09h for each column, and 0Ah to the other line
+abbrev pub aside : ℕ → ℕ → ℕ
+aside a b = cond (ltb (column b) (column a)) 0x08 0x09
+
+unfoldable pub sideways : ℕ → ℕ → List ℕ
+sideways a b = replicate (apart (column a) (column b)) (aside a b) ++ replicate (apart (line a) (line b)) 0x0A
+
+-- to the start of the line of b: 0Ch to the top one, 0Dh on the bottom one, 0Ah 0Dh from the top one to the bottom one
+abbrev pub toStart : ℕ → ℕ → List ℕ
+toStart a b = cond (eqb (line b) 0) (0x0C ∷ []) (cond (eqb (line a) 0) (0x0A ∷ 0x0D ∷ []) (0x0D ∷ []))
+
+-- from there 09h for each column
+unfoldable pub fromStart : ℕ → ℕ → List ℕ
+fromStart a b = toStart a b ++ replicate (column b) 0x09
+
+-- 1Bh 48h b
+abbrev pub jump : ℕ → List ℕ
+jump b = 0x1B ∷ 0x48 ∷ b ∷ []
+
+-- the shorter of two strings; of equals the first
+abbrev pub shorter : List ℕ → List ℕ → List ℕ
+shorter xs ys = cond (leb (length xs) (length ys)) xs ys
+
+unfoldable pub ofFour : ℕ → ℕ → List ℕ
+ofFour a b = shorter (onward a b) (shorter (sideways a b) (shorter (fromStart a b) (jump b)))

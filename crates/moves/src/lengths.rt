@@ -1,0 +1,85 @@
+// How long a way of each kind is.
+use condition::Condition;
+ghost use mathlib.Core.Path.{_≡_};
+ghost use Prim.Native.Nat.{_<_, min};
+ghost use lib.ListN.{length};
+ghost use Rattle.moves.specs.Moves.{dist};
+ghost use Rattle.moves.specs.Kinds.{line, column, apart, onward, sideways, fromStart};
+
+// How many places there are, as wide as a place.
+const PLACES: u8 = Condition::CELLS as u8;
+
+pub(crate) fn line(p: u8) -> u8
+    requires { ⌜ p < 40 ⌝ }
+    ensures { λ r. ⌜ r ≡ line p ⌝ }
+{
+    if p < Condition::COLUMNS { 0 } else { 1 }
+}
+
+pub(crate) fn column(p: u8) -> u8
+    requires { ⌜ p < 40 ⌝ }
+    ensures { λ r. ⌜ r ≡ column p ⌝ }
+{
+    if p < Condition::COLUMNS {
+        return p;
+    }
+    p - Condition::COLUMNS
+}
+
+fn least(a: u8, b: u8) -> u8
+    ensures { λ r. ⌜ r ≡ min a b ⌝ }
+{
+    if a < b { a } else { b }
+}
+
+fn apart(a: u8, b: u8) -> u8
+    ensures { λ r. ⌜ r ≡ apart a b ⌝ }
+{
+    if a < b { b - a } else { a - b }
+}
+
+pub(crate) fn onward(from: u8, to: u8) -> u8
+    requires { ⌜ (from < 40) × (to < 40) ⌝ }
+    ensures { λ r. ⌜ r ≡ length (onward from to) ⌝ }
+{
+    if from <= to {
+        return to - from;
+    }
+    to + PLACES - from
+}
+
+pub(crate) fn sideways(from: u8, to: u8) -> u8
+    requires { ⌜ (from < 40) × (to < 40) ⌝ }
+    ensures { λ r. ⌜ r ≡ length (sideways from to) ⌝ }
+{
+    let columns = apart(column(from), column(to));
+    if line(from) == line(to) {
+        return columns;
+    }
+    columns + 1
+}
+
+pub(crate) fn from_start(from: u8, to: u8) -> u8
+    requires { ⌜ (from < 40) × (to < 40) ⌝ }
+    ensures { λ r. ⌜ r ≡ length (fromStart from to) ⌝ }
+{
+    let n = 1 + column(to);
+    if line(from) < line(to) {
+        return n + 1;
+    }
+    n
+}
+
+// The fewest move bytes: the least of the four lengths, 3 that of 1Bh 48h and the place.
+pub(crate) fn least_of_four(from: u8, to: u8) -> u8
+    requires { ⌜ (from < 40) × (to < 40) ⌝ }
+    ensures { λ r. ⌜ r ≡ dist from to ⌝ }
+{
+    let n = least(sideways(from, to), 3);
+    // From column 2 on neither of the others is shorter.
+    if 2 <= column(to) {
+        return n;
+    }
+    let m = least(onward(from, to), from_start(from, to));
+    least(n, m)
+}
