@@ -2,7 +2,7 @@
 use mathlib.Core.Path.{_≡_, refl, sym, ap, subst⁻¹, _∙_}
 use mathlib.Core.Logic.{_≢_}
 use mathlib.Core.List.{List, [], _∷_, _++_, append-nil}
-use mathlib.Core.Bool.{true, false, cond}
+use mathlib.Core.Bool.{false, cond}
 use Prim.Native.Nat.{ℕ, zero, suc, _+_, _-_, _/_, _%_, _≤_, _<_}
 use native.Mathlib.Omega.{arith}
 use lib.Dec.{eqb}
@@ -23,6 +23,9 @@ use Rattle.moves.proofs.Four.{onward-length, sideways-within, sideways-
 module _ (d : List ℕ) (n x y z : ℕ) where
   abbrev Three : List ℕ → Type 0
   Three o = o ≡ sets d 0 (take n (x ∷ y ∷ z ∷ []))
+
+  pub put-none : n ≡ 0 → Three d
+  put-none e = rw e
 
   pub put-one : (o : List ℕ) → o ≡ set d 0 x → n ≡ 1 → Three o
   put-one o h e = rw e h

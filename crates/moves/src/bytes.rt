@@ -1,4 +1,4 @@
-// The bytes of a way of each kind.
+// The bytes of a way of each kind (specs/Kinds), put at the start of out as far as there is room.
 use crate::lengths::column;
 use crate::lengths::from_start;
 use crate::lengths::line;
@@ -14,7 +14,7 @@ ghost use Rattle.moves.specs.Moves.{dist};
 ghost use Rattle.moves.specs.Ways.{path};
 ghost use Rattle.moves.specs.Kinds.{aside, sideways, fromStart};
 
-// Puts the first n of three bytes at the start of out, as far as there is room.
+// Puts the first n of three bytes.
 fn put_three(out: &mut [u8], n: u8, x: u8, y: u8, z: u8)
     ensures { λ _. ⌜ now (out .exit) ≡ sets (now (out .entry)) 0 (take n (x ∷ y ∷ z ∷ [])) ⌝ }
 {
@@ -32,7 +32,7 @@ fn put_three(out: &mut [u8], n: u8, x: u8, y: u8, z: u8)
     row::put(out, 2, z);
 }
 
-// The byte that goes aside: left or right.
+// The byte that goes sideways: left or right.
 fn aside(from: u8, to: u8) -> u8
     requires { ⌜ (from < 40) × (to < 40) ⌝ }
     ensures { λ r. ⌜ r ≡ aside from to ⌝ }
@@ -43,6 +43,7 @@ fn aside(from: u8, to: u8) -> u8
     0x09
 }
 
+// Puts the n bytes that lead sideways. To the other line the last of them is 0Ah.
 fn put_sideways(out: &mut [u8], n: u8, from: u8, to: u8)
     requires { ⌜ (from < 40) × (to < 40) × (n ≡ length (sideways from to)) × (n ≤ 3) ⌝ }
     ensures { λ _. ⌜ now (out .exit) ≡ sets (now (out .entry)) 0 (sideways from to) ⌝ }
@@ -54,6 +55,7 @@ fn put_sideways(out: &mut [u8], n: u8, from: u8, to: u8)
     }
 }
 
+// Puts the n bytes that lead there from the start of the line.
 fn put_from_start(out: &mut [u8], n: u8, from: u8, to: u8)
     requires { ⌜ (from < 40) × (to < 40) × (n ≡ length (fromStart from to)) × (n ≤ 3) ⌝ }
     ensures { λ _. ⌜ now (out .exit) ≡ sets (now (out .entry)) 0 (fromStart from to) ⌝ }
@@ -69,7 +71,7 @@ fn put_from_start(out: &mut [u8], n: u8, from: u8, to: u8)
     put_three(out, n, 0x0D, 0x09, 0x09);
 }
 
-// Puts the way, which has n bytes: the first kind that is so long.
+// Puts the way, which has n bytes: it is of the first kind that is so long.
 pub(crate) fn put_kind(out: &mut [u8], n: u8, from: u8, to: u8)
     requires { ⌜ (from < 40) × (to < 40) × (n ≡ dist from to) ⌝ }
     ensures { λ _. ⌜ now (out .exit) ≡ sets (now (out .entry)) 0 (path from to) ⌝ }

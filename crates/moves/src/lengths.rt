@@ -1,4 +1,4 @@
-// How long a way of each kind is.
+// How long a way of each kind is (specs/Kinds).
 use condition::Condition;
 ghost use mathlib.Core.Path.{_≡_};
 ghost use Prim.Native.Nat.{_<_, min};
@@ -9,6 +9,7 @@ ghost use Rattle.moves.specs.Kinds.{line, column, apart, onward, sideway
 // How many places there are, as wide as a place.
 const PLACES: u8 = Condition::CELLS as u8;
 
+// The line of a place: 0 the top one, 1 the bottom one.
 pub(crate) fn line(p: u8) -> u8
     requires { ⌜ p < 40 ⌝ }
     ensures { λ r. ⌜ r ≡ line p ⌝ }
@@ -32,12 +33,14 @@ fn least(a: u8, b: u8) -> u8
     if a < b { a } else { b }
 }
 
+// How far two numbers are apart.
 fn apart(a: u8, b: u8) -> u8
     ensures { λ r. ⌜ r ≡ apart a b ⌝ }
 {
     if a < b { b - a } else { a - b }
 }
 
+// Onward, 09h for each place.
 pub(crate) fn onward(from: u8, to: u8) -> u8
     requires { ⌜ (from < 40) × (to < 40) ⌝ }
     ensures { λ r. ⌜ r ≡ length (onward from to) ⌝ }
@@ -48,6 +51,7 @@ pub(crate) fn onward(from: u8, to: u8) -> u8
     to + PLACES - from
 }
 
+// Sideways, a byte for each column, and 0Ah to the other line.
 pub(crate) fn sideways(from: u8, to: u8) -> u8
     requires { ⌜ (from < 40) × (to < 40) ⌝ }
     ensures { λ r. ⌜ r ≡ length (sideways from to) ⌝ }
@@ -59,6 +63,7 @@ pub(crate) fn sideways(from: u8, to: u8) -> u8
     columns + 1
 }
 
+// From the start of the line: a byte that leads there, from the top line to the bottom one two, and 09h for each column.
 pub(crate) fn from_start(from: u8, to: u8) -> u8
     requires { ⌜ (from < 40) × (to < 40) ⌝ }
     ensures { λ r. ⌜ r ≡ length (fromStart from to) ⌝ }
@@ -70,13 +75,13 @@ pub(crate) fn from_start(from: u8, to: u8) -> u8
     n
 }
 
-// The fewest move bytes: the least of the four lengths, 3 that of 1Bh 48h and the place.
+// The fewest move bytes: the least of the four lengths. The fourth is that of 1Bh 48h and the place, 3.
 pub(crate) fn least_of_four(from: u8, to: u8) -> u8
     requires { ⌜ (from < 40) × (to < 40) ⌝ }
     ensures { λ r. ⌜ r ≡ dist from to ⌝ }
 {
     let n = least(sideways(from, to), 3);
-    // From column 2 on neither of the others is shorter.
+    // From column 2 on the two others are no shorter: most ways that are far end here.
     if 2 <= column(to) {
         return n;
     }

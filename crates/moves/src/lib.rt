@@ -1,8 +1,7 @@
-// The planner's moves: where 09h leads, the fewest move bytes between two places, and the way. Both are worked out from the two
-// places, by the four kinds of way (specs/Kinds).
+// The planner's moves: where 09h leads, the fewest move bytes between two places, and the way. These are worked out from the two
+// places: the way is the shortest of four kinds (specs/Kinds).
 ghost use mathlib.Core.Path.{_≡_};
-ghost use Prim.Native.Nat.{_<_};
-ghost use Rattle.moves.specs.Moves.{next, dist, Fewest};
+ghost use Rattle.moves.specs.Moves.{next, Fewest};
 ghost use Rattle.moves.specs.Ways.{PutsWay};
 
 mod bytes;
@@ -33,7 +32,7 @@ pub fn number(from: u8, to: u8) -> u8
     if Condition::LAST_PLACE < to {
         return 0;
     }
-    // As most ways are, in a plan. The rest takes longer to work out.
+    // Most ways of a plan end above or here; what is left takes longer to work out.
     if to == from + 1 {
         return 1;
     }

@@ -5,9 +5,8 @@ use Prim.Native.Nat.{ℕ, _+_, _-_, _≤_, _<_}
 use native.Mathlib.Nat.{zero-add}
 use native.Mathlib.Omega.{arith}
 use lib.ListN.{length, set, take, drop, length-append, length-drop, drop-of-length-le}
-use lib.Seq.{sets, sets-eq, take-all, take-append-seam, drop-drop}
+use lib.Seq.{sets, sets-eq, drop-drop}
 use Rattle.laws.proofs.Lists.{tail-part, sets-append}
-use Rattle.row.specs.Row.{laid}
 use Rattle.moves.specs.Ways.{path, PutsWay}
 use Rattle.planner.specs.Plan.{atStart}
 use Rattle.moves.proofs.Put.{way-path}
@@ -22,20 +21,11 @@ put-behind out part k bs h e =
     rw (e, tail-part out k, none, append-nil, drop-drop (length bs) k out)
     (sym (sets-eq bs out k h ∙ append-assoc (take k out) bs _))
 
--- the same of bytes that are copied there, where there is room for them
-pub put-part : (out part : List ℕ) (k : ℕ) (bs : List ℕ) → k + length bs ≤ length out
-    → part ≡ laid bs (take (length out - k) (drop k out))
-    → take k out ++ (part ++ drop (length out - k) (drop k out)) ≡ sets out k bs
-unfolding laid
-put-part out part k bs h e =
-    let n : length bs ≤ length (take (length out - k) (drop k out)) = rw (tail-part out k, length-drop k out) (omega arith) in
-    put-behind out part k bs h (e ∙ rw (take-all (length (take (length out - k) (drop k out))) bs n))
-
--- bytes put at the start
+-- bytes put at the start of a buffer
 pub put-front : (out xs : List ℕ) → length xs ≤ length out → sets out 0 xs ≡ atStart xs out
 put-front out xs h = sets-eq xs out 0 (omega arith) ∙ ap (λ (n : ℕ). xs ++ drop n out) (zero-add (length xs))
 
--- the way between two places that is put at the start of what is lent
+-- the way between two places, put at the start of what is lent
 pub put-way-law : (out part : List ℕ) (k p q n : ℕ) → PutsWay p q (take (length out - k) (drop k out)) part n → p < 40 → q < 40
     → k + length (path p q) ≤ length out
     → (k + n ≡ k + length (path p q)) × (take k out ++ (part ++ drop (length out - k) (drop k out)) ≡ sets out k (path p q))
@@ -52,7 +42,7 @@ pub put-last : (out out′ : List ℕ) (k at w : ℕ) (xs : List ℕ) → (at �
 put-last out out′ k at w xs d =
     (omega (arith, d .0, length-append xs (w ∷ [])), rw (d .0, d .1) (sym (sets-append out k xs (w ∷ []))))
 
--- what is put under another name
+-- a plan that is put, and the same plan under another name
 pub put-same : (after out xs ys : List ℕ) (n : ℕ) → (n ≡ length xs) × (after ≡ atStart xs out) → xs ≡ ys
     → (n ≡ length ys) × (after ≡ atStart ys out)
 put-same after out xs ys n d e = (d .0 ∙ ap length e, d .1 ∙ ap (λ (bs : List ℕ). atStart bs out) e)

@@ -29,6 +29,7 @@ use Rattle.planner.specs.Clear.{eitherPlan, eitherFontsPlan}
 use Rattle.planner.specs.Given.{Given}
 use Rattle.planner.specs.Answer.{onMove, onSwitch, lacks, someLacks, refusalBy, planRefusal, fontsRefusal, bytesBy, Promise}
 use Rattle.planner.proofs.Serving.{Plannable, Switchable}
+use Rattle.planner.proofs.Putting.{put-same}
 use Rattle.planner.proofs.Demand.{either-delivers, either-fonts-deliver}
 
 -- no refusal is given
@@ -252,9 +253,8 @@ module _ (number : ℕ) (bytes : List ℕ) (For : List ℕ → Type 0) (out : Li
       → Promise number bytes For out after (planned 0 n)
   unfolding bytesBy
   taken-on after put n e d w same =
-      let en : n ≡ length bytes = w .0 ∙ ap length same in
-      let eo : after ≡ atStart bytes out = w .1 ∙ ap (λ (bs : List ℕ). atStart bs out) same in
-      record { answer = rw (e, en); output = rw e eo; delivers = λ h. rw (en, eo, take-append-seam bytes _) d }
+      let p = put-same after out put bytes n w same in
+      record { answer = rw (e, p .0); output = rw e (p .1); delivers = λ h. rw (p .0, p .1, take-append-seam bytes _) d }
 
   -- what an accepted plan tells
   pub told : (after : List ℕ) (r : Planned) → number ≡ 0 → Promise number bytes For out after r

@@ -6,7 +6,7 @@ use Rattle.moves.proofs.number.Statement.{statement}
 use Rattle.moves.proofs.number.Tie as tie
 
 returns : tie.Need-returns
-returns c = fewest _ _ _ (sym (fewest-self _ _ (c .if1 .taken)))
+returns c = fewest _ _ _ (sym (fewest-self _ _ (omega arith)))
 
 returns-2 : tie.Need-returns-2
 returns-2 c = fewest _ _ _ (sym (fewest-none-from _ _ (omega arith)))

@@ -1,12 +1,11 @@
-use Prim.Native.Nat.{_≤_}
 use native.Mathlib.Omega.{arith}
-use Rattle.moves.proofs.Put.{put-one, put-two, put-all}
+use Rattle.moves.proofs.Put.{put-none, put-one, put-two, put-all}
 use borrow.Author.Needs.{needs}
 use Rattle.moves.proofs.bytes.put_three.Statement.{statement}
 use Rattle.moves.proofs.bytes.put_three.Tie as tie
 
 returns : tie.Need-returns
-returns c = search needs
+returns c = put-none _ (c .before .before .args .n) _ _ _ (omega arith)
 
 put-requires : tie.Need-put-requires
 put-requires c κs = search needs
@@ -15,7 +14,9 @@ same-length : tie.Need-same-length
 same-length c = search needs
 
 returns-2 : tie.Need-returns-2
-returns-2 c = put-one _ _ _ _ _ _ (c .before .before .before .put .ensures) (c .if2 .taken)
+returns-2 c =
+    let f = c .before .before .before in
+    put-one _ (f .before .before .before .before .args .n) _ _ _ _ (f .put .ensures) (omega arith)
 
 put-requires-2 : tie.Need-put-requires-2
 put-requires-2 c κs = search needs
@@ -25,8 +26,9 @@ same-length-2 c = search needs
 
 returns-3 : tie.Need-returns-3
 returns-3 c =
-    put-two _ _ _ _ _ _ _ (c .before .before .before .before .before .before .before .before .put .ensures)
-    (c .before .before .before .put2 .ensures) (c .if3 .taken)
+    let f = c .before .before .before in
+    let g = f .before .before .before .before .before in
+    put-two _ (g .before .before .before .before .args .n) _ _ _ _ _ (g .put .ensures) (f .put2 .ensures) (omega arith)
 
 put-requires-3 : tie.Need-put-requires-3
 put-requires-3 c κs = search needs
@@ -36,12 +38,11 @@ same-length-3 c = search needs
 
 returns-4 : tie.Need-returns-4
 returns-4 c =
-    let f = c .before .before .before .before .before .before .before .before in
-    let a = f .before .before .before .before .before .before .before .before .args in
-    let l : 3 ≤ a .n = omega arith in
-    put-all _ _ _ _ _ _ _ _
-    (c .before .before .before .before .before .before .before .before .before .before .before .before .put .ensures)
-    (c .before .before .before .before .before .before .before .put2 .ensures) (c .before .before .put3 .ensures) l
+    let f = c .before .before in
+    let g = f .before .before .before .before .before in
+    let h = g .before .before .before .before .before in
+    put-all _ (h .before .before .before .before .args .n) _ _ _ _ _ _ (h .put .ensures) (g .put2 .ensures) (f .put3 .ensures)
+    (omega arith)
 
 pub put-three-spec : {M : Type 1} → statement M
 put-three-spec =
