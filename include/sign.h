@@ -51,12 +51,13 @@ extern "C" {
      sign_power_up   664
      sign_run        1,272
      sign_plan       805
-     sign_plan_fonts 972
+     sign_plan_fonts 968
      sign_reel       1,157
      sign_view       656
      sign_dot        560
      sign_underline  544
      sign_lit        544
+   A host that makes one call after the other needs the largest of those that it makes.
    The code also uses the red zone, the 128 bytes below the stack pointer that the x86-64 ABI leaves
    to a function. A signal handler on the same stack needs its own frame and those 128 bytes
    besides. In a kernel or on bare metal the processor itself would write an interrupt's frame into

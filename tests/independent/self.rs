@@ -256,7 +256,7 @@ fn worked_examples(r: &mut Report) {
 fn move_table() -> Vec<Vec<usize>> {
     let sheet = include_str!("../../crates/bench_sheet/specs/MoveSheet.antt");
     let row = |line: &str| -> Vec<usize> { line.bytes().map(|digit| (digit - b'0') as usize).collect() };
-    sheet.lines().filter_map(|line| line.split("row \"").nth(1)?.strip_suffix('"')).map(row).collect()
+    sheet.lines().filter_map(|line| line.split("digits \"").nth(1)?.strip_suffix('"')).map(row).collect()
 }
 
 /// The table of move lengths has these numbers, and its rule holds: 0 exactly from a place to itself, otherwise

@@ -1,11 +1,9 @@
 -- The bench sheet holds: computed from the definitions, all fifteen cases under one statement.
 use mathlib.Core.Path.{_≡_, refl, sym, ap, subst, _∙_}
-use mathlib.Core.Bool.{Bool, true, false, cond, _&&_}
 use mathlib.Core.List.{List}
 use Prim.Native.Nat.{ℕ}
-use lib.Dec.{ltb}
 use lib.ListN.{length}
-use borrow.Author.Tests.{eq-eqb, le-leb, ltb-true, ltb-false}
+use borrow.Author.Tests.{eq-eqb, le-leb}
 use Rattle.row.specs.Row.{lineStart, scrolled, shifted}
 use Rattle.users.specs.Users.{roomOf, limitOf, foundIn, isUser, characterAt, putOf, removed, without, withYoungest, defineOf}
 use Rattle.dots.specs.Dots.{dotOf, litUpTo, litOf}
@@ -31,7 +29,7 @@ use Rattle.bench_sheet.specs.TallySheet.{AllCount, tallySheet}
 use Rattle.reel.specs.Reel.{picturesOf, plansOf, firstRefused, wholeRefusal, stopOf}
 use Rattle.bench_sheet.specs.ReelSheet.{reelSheet}
 use Rattle.bench_sheet.specs.MoveSheet.{table, numberIn, Tabled}
-use Rattle.moves.proofs.Grid.{listed, grid, grid-at, grid-right, grid-below}
+use Rattle.moves.proofs.Grid.{listed, grid, grid-is}
 use Rattle.moves.proofs.Rule.{ruled}
 
 pub bench : AllHold sheet
@@ -111,17 +109,12 @@ all-numbers = refl
 -- it answers for any two numbers
 number-is : (a b : ℕ) → numberIn table a b ≡ fewestOf a b
 unfolding fewestOf
-number-is a b = ap (λ (rows : List (List ℕ)). numberIn rows a b) all-numbers ∙ entry (ltb a 40) refl (ltb b 40) refl
-  where
-    entry : (s : Bool) → ltb a 40 ≡ s → (t : Bool) → ltb b 40 ≡ t
-        → numberIn (grid dist) a b ≡ cond (ltb a 40 && ltb b 40) (dist a b) 0
-    entry true h true k = rw (h, k) (grid-at dist 0 a b (ltb-true a 40 h) (ltb-true b 40 k))
-    entry true h false k = rw (h, k) (grid-right dist 0 a b (ltb-true a 40 h) (ltb-false b 40 k))
-    entry false h t k = rw h (grid-below dist 0 a b (ltb-false a 40 h))
+number-is a b = ap (λ (rows : List (List ℕ)). numberIn rows a b) all-numbers ∙ grid-is dist 0 a b
 
 pub move-bench : Tabled table
 move-bench =
     record {
+      size = refl;
       same = λ a b r f. f .answer ∙ sym (number-is a b);
       rule = λ a b ha hb. subst (λ (f : ℕ → ℕ → ℕ). Ruled f a b) (λ i x y. sym (number-is x y) i) (ruled a b ha hb);
     }

@@ -57,9 +57,9 @@ pub record Shortest (a b : ℕ) (bs : List ℕ) : Type 0 where
   pub fewest : (cs : List ℕ) → leadsTo none a b cs ≡ true → length bs ≤ length cs
   pub smallest : (cs : List ℕ) → leadsTo none a b cs ≡ true → length cs ≡ length bs → atMost bs cs ≡ true
 
--- what `put_way` promises of its answer r and of the output at exit: the way, as far as there is room, its length, and, of what
--- stands there between two places, that it is the shortest and of equals the smallest
+-- what `put_way` promises of its answer r and of the output at exit: the way, as far as there is room, and its length; and that
+-- between two places, where there is room for it, it is the shortest and of equals the smallest
 pub record PutsWay (a b : ℕ) (before after : List ℕ) (r : ℕ) : Type 0 where
   pub answer : r ≡ length (wayOf a b)
   pub output : after ≡ sets before 0 (wayOf a b)
-  pub shortest : 3 ≤ length before → a < 40 → b < 40 → Shortest a b (take r after)
+  pub shortest : r ≤ length before → a < 40 → b < 40 → Shortest a b (take r after)

@@ -10,7 +10,6 @@ ghost use mathlib.Core.List.{[], _∷_};
 ghost use Prim.Native.Nat.{_<_, _≤_};
 ghost use lib.ListN.{length, take};
 ghost use lib.Seq.{sets};
-ghost use Rattle.moves.specs.Moves.{dist};
 ghost use Rattle.moves.specs.Ways.{path};
 ghost use Rattle.moves.specs.Kinds.{aside, sideways, fromStart};
 
@@ -73,7 +72,7 @@ fn put_from_start(out: &mut [u8], n: u8, from: u8, to: u8)
 
 // Puts the way, which has n bytes: it is of the first kind that is so long.
 pub(crate) fn put_kind(out: &mut [u8], n: u8, from: u8, to: u8)
-    requires { ⌜ (from < 40) × (to < 40) × (n ≡ dist from to) ⌝ }
+    requires { ⌜ (from < 40) × (to < 40) × (n ≡ length (path from to)) ⌝ }
     ensures { λ _. ⌜ now (out .exit) ≡ sets (now (out .entry)) 0 (path from to) ⌝ }
 {
     if onward(from, to) == n {

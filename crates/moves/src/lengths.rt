@@ -1,10 +1,11 @@
 // How long a way of each kind is (specs/Kinds).
 use condition::Condition;
 ghost use mathlib.Core.Path.{_≡_};
-ghost use Prim.Native.Nat.{_<_, min};
+ghost use mathlib.Core.Bool.{true};
+ghost use Prim.Native.Nat.{_-_, _<_, _≤_, min};
 ghost use lib.ListN.{length};
 ghost use Rattle.moves.specs.Moves.{dist};
-ghost use Rattle.moves.specs.Kinds.{line, column, apart, onward, sideways, fromStart};
+ghost use Rattle.moves.specs.Kinds.{lineOf, columnOf, apart, onward, sideways, fromStart};
 
 // How many places there are, as wide as a place.
 const PLACES: u8 = Condition::CELLS as u8;
@@ -12,14 +13,14 @@ const PLACES: u8 = Condition::CELLS as u8;
 // The line of a place: 0 the top one, 1 the bottom one.
 pub(crate) fn line(p: u8) -> u8
     requires { ⌜ p < 40 ⌝ }
-    ensures { λ r. ⌜ r ≡ line p ⌝ }
+    ensures { λ r. ⌜ r ≡ lineOf p ⌝ }
 {
     if p < Condition::COLUMNS { 0 } else { 1 }
 }
 
 pub(crate) fn column(p: u8) -> u8
     requires { ⌜ p < 40 ⌝ }
-    ensures { λ r. ⌜ r ≡ column p ⌝ }
+    ensures { λ r. ⌜ r ≡ columnOf p ⌝ }
 {
     if p < Condition::COLUMNS {
         return p;
@@ -75,16 +76,33 @@ pub(crate) fn from_start(from: u8, to: u8) -> u8
     n
 }
 
+// The way is onward or the jump: forward by less than a line, and not near a line's start. It may be so where this says no.
+fn forward(from: u8, to: u8) -> bool
+    requires { ⌜ (from < 40) × (to < 40) ⌝ }
+    ensures { λ r. ⌜ (r ≡ true → (from ≤ to) × (dist from to ≡ min (to - from) 3)) ⌝ }
+{
+    if column(to) < 2 {
+        return false;
+    }
+    if to < from {
+        return false;
+    }
+    if 18 < to - from {
+        return false;
+    }
+    true
+}
+
 // The fewest move bytes: the least of the four lengths. The fourth is that of 1Bh 48h and the place, 3.
 pub(crate) fn least_of_four(from: u8, to: u8) -> u8
     requires { ⌜ (from < 40) × (to < 40) ⌝ }
     ensures { λ r. ⌜ r ≡ dist from to ⌝ }
 {
-    let n = least(sideways(from, to), 3);
-    // From column 2 on the two others are no shorter: most ways that are far end here.
-    if 2 <= column(to) {
-        return n;
+    // Most ways of a plan are so, and two of the lengths need not be worked out then.
+    if forward(from, to) {
+        return least(to - from, 3);
     }
+    let n = least(sideways(from, to), 3);
     let m = least(onward(from, to), from_start(from, to));
     least(n, m)
 }

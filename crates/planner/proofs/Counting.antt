@@ -13,7 +13,7 @@ use Rattle.moves.specs.Ways.{path}
 use Rattle.planner.specs.Plan.{flagged}
 use Rattle.planner.specs.Fonts.{switch, fontsPlanOf}
 use Rattle.moves.proofs.Moving.{next-below}
-use Rattle.moves.proofs.Rule.{fewest-long}
+use Rattle.moves.proofs.Rule.{fewest-length}
 use Rattle.planner.proofs.Canvas.{wrongIn}
 use Rattle.planner.proofs.Picture.{planOver}
 use Rattle.planner.proofs.Costs.{flagged-yes, flagged-no, flagged-length, cost-far, length-plan}
@@ -104,7 +104,7 @@ module _ (e : Bool) (ws gs cs fs : List ℕ) (q p₀ f₀ : ℕ) where
     -- the bytes at a wrong cell, by the numbers of the moves and of the switch
     pub count-sum : (way more : ℕ) → Fewest p i way → more ≡ length (switch e f (getD gs i 0)) → i < 40
         → k + way + more + 1 ≡ k + (length (path p i) + length (written f i))
-    count-sum way more w m h = omega (arith, fewest-long p i way w (v .inside) h, m, written-length f i)
+    count-sum way more w m h = omega (arith, fewest-length p i way w (v .inside) h, m, written-length f i)
 
     pub count-room : i < 40 → bad i ≡ true → k + (length (path p i) + length (written f i)) ≤ k₀ + length planIn
     count-room h b = omega (arith, v .count, rest-length p f i h b)

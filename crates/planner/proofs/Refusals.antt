@@ -29,7 +29,6 @@ use Rattle.planner.specs.Clear.{eitherPlan, eitherFontsPlan}
 use Rattle.planner.specs.Given.{Given}
 use Rattle.planner.specs.Answer.{onMove, onSwitch, lacks, someLacks, refusalBy, planRefusal, fontsRefusal, bytesBy, Promise}
 use Rattle.planner.proofs.Serving.{Plannable, Switchable}
-use Rattle.planner.proofs.Putting.{put-same}
 use Rattle.planner.proofs.Demand.{either-delivers, either-fonts-deliver}
 
 -- no refusal is given
@@ -249,11 +248,10 @@ module _ (number : ℕ) (bytes : List ℕ) (For : List ℕ → Type 0) (out : Li
       let t = ne-eqb number 0 (λ (h : number ≡ 0). z (e ∙ h)) in
       record { answer = rw (t, e); output = rw t; delivers = λ h. absurd (z h) }
 
-  pub taken-on : (after put : List ℕ) (n : ℕ) → number ≡ 0 → For bytes → (n ≡ length put) × (after ≡ atStart put out) → put ≡ bytes
+  pub taken-on : (after : List ℕ) (n : ℕ) → number ≡ 0 → For bytes → (n ≡ length bytes) × (after ≡ atStart bytes out)
       → Promise number bytes For out after (planned 0 n)
   unfolding bytesBy
-  taken-on after put n e d w same =
-      let p = put-same after out put bytes n w same in
+  taken-on after n e d p =
       record { answer = rw (e, p .0); output = rw e (p .1); delivers = λ h. rw (p .0, p .1, take-append-seam bytes _) d }
 
   -- what an accepted plan tells

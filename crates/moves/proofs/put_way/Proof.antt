@@ -1,7 +1,6 @@
-use mathlib.Core.Path.{sym, ap, _∙_}
-use lib.Seq.{sets}
-use Rattle.moves.proofs.Rule.{fewest-is, fewest-places}
-use Rattle.moves.proofs.Put.{no-way, way-path, way-put}
+use mathlib.Core.Path.{sym, _∙_}
+use Rattle.moves.proofs.Rule.{fewest-places, fewest-length}
+use Rattle.moves.proofs.Put.{put-as, no-way, way-path, way-put}
 use borrow.Author.Needs.{needs}
 use Rattle.moves.proofs.put_way.Statement.{statement}
 use Rattle.moves.proofs.put_way.Tie as tie
@@ -14,9 +13,9 @@ returns c = no-way _ _ _ (sym (c .before .number .ensures .answer) ∙ c .if1 .t
 
 put-kind-requires : tie.Need-put-kind-requires
 put-kind-requires c κs =
-    let n = c .before .before .number .ensures .answer in
-    let z = fewest-places _ _ (λ e. c .before .if1 .left (n ∙ e)) in
-    (z .0, z .1, n ∙ fewest-is _ _ (z .0) (z .1))
+    let n = c .before .before .number .ensures in
+    let z = fewest-places _ _ (λ e. c .before .if1 .left (n .answer ∙ e)) in
+    (z .0, z .1, fewest-length _ _ _ n (z .0) (z .1))
 
 same-length : tie.Need-same-length
 same-length c = search needs
@@ -26,7 +25,7 @@ returns-2 c =
     let f = c .before .before .before .before in
     let n = f .before .number .ensures .answer in
     let z = fewest-places _ _ (λ e. f .if1 .left (n ∙ e)) in
-    way-put _ _ _ _ _ n (c .before .before .put-kind .ensures ∙ ap (sets _ 0) (sym (way-path _ _ (z .0) (z .1))))
+    way-put _ _ _ _ _ n (put-as _ _ _ _ (c .before .before .put-kind .ensures) (sym (way-path _ _ (z .0) (z .1))))
 
 pub put-way-spec : {M : Type 1} → statement M
 put-way-spec = tie.close (tie.spec number-requires returns put-kind-requires same-length returns-2)

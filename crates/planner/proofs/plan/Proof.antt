@@ -8,6 +8,7 @@ use Rattle.planner.specs.Plan.{Delivers}
 use Rattle.planner.specs.Clear.{eitherPlan, eitherFontsPlan}
 use Rattle.planner.specs.Answer.{planRefusal}
 use Rattle.planner.proofs.Demand.{either-one-font}
+use Rattle.planner.proofs.Putting.{put-same}
 use Rattle.planner.proofs.Refusals.{Accepted, accepted, plan-delivers, plan-given, refused, taken-on}
 use borrow.Author.Needs.{needs}
 use Rattle.planner.proofs.plan.Statement.{statement}
@@ -78,7 +79,7 @@ same-length c = search needs
 returns-2 : tie.Need-returns-2
 returns-2 c =
     let f = c .before .before .before .before .before in
-    taken-on _ _ _ _ _ _ _ (unrefused f) (delivered f) (c .before .before .put-either .ensures) (same f)
+    taken-on _ _ _ _ _ _ (unrefused f) (delivered f) (put-same _ _ _ _ _ (c .before .before .put-either .ensures) (same f))
 
 pub plan-spec : {M : Type 1} → statement M
 plan-spec =

@@ -1,4 +1,4 @@
-use mathlib.Core.Path.{_≡_, refl, sym, _∙_}
+use mathlib.Core.Path.{_≡_, sym, _∙_}
 use mathlib.Core.Bool.{true}
 use Prim.Native.Nat.{_≤_}
 use native.Mathlib.Omega.{arith}
@@ -67,7 +67,7 @@ same-length c = search needs
 returns-2 : tie.Need-returns-2
 returns-2 c =
     let f = c .before .before .before .before in
-    taken-on _ _ _ _ _ _ _ (unrefused f) (delivered f) (c .before .before .put-either .ensures) refl
+    taken-on _ _ _ _ _ _ (unrefused f) (delivered f) (c .before .before .put-either .ensures)
 
 pub plan-fonts-spec : {M : Type 1} → statement M
 plan-fonts-spec =

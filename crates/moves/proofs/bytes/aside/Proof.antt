@@ -1,6 +1,6 @@
-use mathlib.Core.Path.{sym}
 use native.Mathlib.Omega.{arith}
-use Rattle.moves.proofs.Put.{aside-left, aside-right}
+use borrow.Author.Tests.{lt-ltb, le-ltb}
+use Rattle.moves.specs.Kinds.{columnOf}
 use borrow.Author.Needs.{needs}
 use Rattle.moves.proofs.bytes.aside.Statement.{statement}
 use Rattle.moves.proofs.bytes.aside.Tie as tie
@@ -14,12 +14,12 @@ column-requires-2 c κs = search needs
 returns : tie.Need-returns
 returns c =
     let a = c .before .before .before .args in
-    sym (aside-left (a .from) (a .to) (omega arith))
+    rw (lt-ltb (columnOf (a .to)) (columnOf (a .from)) (omega arith))
 
 returns-2 : tie.Need-returns-2
 returns-2 c =
     let a = c .before .before .before .args in
-    sym (aside-right (a .from) (a .to) (omega arith))
+    rw (le-ltb (columnOf (a .to)) (columnOf (a .from)) (omega arith))
 
 pub aside-spec : {M : Type 1} → statement M
 aside-spec = tie.close (tie.spec column-requires column-requires-2 returns returns-2)

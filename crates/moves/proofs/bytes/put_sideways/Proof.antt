@@ -1,6 +1,7 @@
+use mathlib.Core.Path.{_∙_}
 use native.Mathlib.Omega.{arith}
 use Rattle.moves.proofs.Four.{sideways-across}
-use Rattle.moves.proofs.Put.{put-within, put-across}
+use Rattle.moves.proofs.Put.{put-as, is-within, put-across}
 use borrow.Author.Needs.{needs}
 use Rattle.moves.proofs.bytes.put_sideways.Statement.{statement}
 use Rattle.moves.proofs.bytes.put_sideways.Tie as tie
@@ -33,9 +34,10 @@ returns c =
     let f = c .before .before .before .before .before .before .before .before .before in
     let a = f .before .before .before .before .args in
     let across = sideways-across (a .from) (a .to) (search needs) (search needs) (λ e. omega arith) in
-    put-across _ _ _ (a .n) _ (a .from) (a .to) _ (f .put-three .ensures) (c .before .before .put .ensures)
-    (f .before .before .aside .ensures) (search needs) (search needs) (omega (arith, across)) (search needs) (search needs)
-    (λ e. omega arith)
+    c .before .before .put .ensures
+    ∙ rw (f .put-three .ensures)
+    (put-across _ (a .n) _ (a .from) (a .to) _ (f .before .before .aside .ensures) (search needs) (search needs)
+    (omega (arith, across)) (search needs) (search needs) (λ e. omega arith))
 
 same-length-2 : tie.Need-same-length-2
 same-length-2 c = search needs
@@ -44,8 +46,8 @@ returns-2 : tie.Need-returns-2
 returns-2 c =
     let f = c .before .before .before .before .before in
     let a = f .before .before .before .before .args in
-    put-within _ _ (a .n) _ (a .from) (a .to) (f .put-three .ensures) (f .before .before .aside .ensures) (search needs)
-    (search needs) (omega arith)
+    put-as _ _ _ _ (f .put-three .ensures)
+    (is-within (a .n) _ (a .from) (a .to) (f .before .before .aside .ensures) (search needs) (search needs) (omega arith))
 
 pub put-sideways-spec : {M : Type 1} → statement M
 put-sideways-spec =

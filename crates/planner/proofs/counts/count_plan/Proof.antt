@@ -3,7 +3,7 @@ use mathlib.Core.Logic.{⊎-elim}
 use Prim.Native.Nat.{ℕ, _+_, _-_, _<_}
 use native.Mathlib.Omega.{arith}
 use borrow.Author.Needs.{needs}
-use Rattle.moves.proofs.Rule.{fewest-long}
+use Rattle.moves.proofs.Rule.{fewest-length}
 use Rattle.planner.proofs.Canvas.{wrongIn}
 use Rattle.planner.proofs.Counting.{Counting, count-start, count-skip, count-sum, count-fits, count-write, count-end}
 use Rattle.planner.proofs.Counting.{end-fits}
@@ -39,7 +39,7 @@ returns : tie.Need-returns Inv-loop μ-loop
 returns c =
     let f = c .before .before .before in
     let v = c .before .before .loop .inv in
-    rw (fewest-long _ _ _ (c .number2 .ensures) (v .inside) (f .before .before .before .before .pre .asked-40))
+    rw (fewest-length _ _ _ (c .number2 .ensures) (v .inside) (f .before .before .before .before .pre .asked-40))
     (count-by (f .before .before .before .before .args .clear) _ _ _ _ _ _ (f .before .codes-at .ensures) (f .fonts-at .ensures) _
     (count-end _ _ _ _ _ _ _ _ v (search needs)))
 
@@ -118,7 +118,7 @@ add-result : tie.Need-add-result Inv-loop μ-loop
 add-result c =
     let v = c .before .before .loop .inv in
     let given = c .before .before .before .before .before .before .before in
-    let last = fewest-long _ _ _ (c .number2 .ensures) (v .inside) (given .pre .asked-40) in
+    let last = fewest-length _ _ _ (c .number2 .ensures) (v .inside) (given .pre .asked-40) in
     omega (arith, last, end-fits _ _ _ _ _ _ _ _ v (clear-most (given .args .clear)) (search needs))
 
 pub count-plan-spec : {M : Type 1} → statement M
