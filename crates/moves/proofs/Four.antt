@@ -1,12 +1,12 @@
 -- The way is the shortest of the four kinds, the first of equals; and so the fewest move bytes are the least of their lengths.
-use mathlib.Core.Path.{_≡_, refl, sym, ap, subst, _∙_}
+use mathlib.Core.Path.{_≡_, refl, sym, ap, _∙_}
 use mathlib.Core.Logic.{_≢_}
 use mathlib.Core.List.{List, []}
 use Prim.Native.Nat.{ℕ, _+_, _-_, _%_, _≤_, _<_, min}
 use native.Mathlib.Omega.{arith}
-use lib.Dec.{eqb, ltb, leb}
+use lib.Dec.{eqb, leb}
 use lib.ListN.{length, replicate, length-append, length-replicate}
-use borrow.Author.Tests.{leb-true, leb-false, ltb-true, ltb-false, eqb-true, eqb-false}
+use borrow.Author.Tests.{leb-true, leb-false, eqb-true, eqb-false}
 use Rattle.laws.proofs.Tests.{by-cases}
 use Rattle.row.specs.Row.{lineStart}
 use Rattle.moves.specs.Moves.{left, next, down, move, near1, near2, dist}
@@ -56,7 +56,7 @@ start-length a b ha hb =
     (λ z. rw (e, z) (omega (arith, rw (e, z) at l, eqb-true (lineOf a) 0 z, eqb-false (lineOf b) 0 e)))
     (λ z. rw (e, z) (omega (arith, rw (e, z) at l, eqb-false (lineOf a) 0 z, eqb-false (lineOf b) 0 e))))
 
--- forward to the other line by less than a line it takes three or more
+-- forward to the other line by at most 18 the columns are two or more apart, so that sideways takes three or more
 across-far : (a b : ℕ) → a < 20 → 20 ≤ b → b < a + 19 → 2 ≤ apart (columnOf a) (columnOf b)
 across-far a b s t h = omega arith
 
@@ -104,7 +104,7 @@ module _ (a b : ℕ) (ha : a < 40) (hb : b < 40) where
         shorter-length (fromStart a b) (jump b),
       )
 
-  -- forward, by less than a line and not to 20, no other kind is shorter than onward or the jump
+  -- forward, by at most 18 and not to 20, no other kind is shorter than onward or the jump
   pub dist-forward : a ≤ b → b - a < 19 → b ≢ 20 → dist a b ≡ min (b - a) 3
   dist-forward up near n =
       let on : length (onward a b) ≡ b - a = omega (arith, onward-length a b) in

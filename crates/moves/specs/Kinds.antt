@@ -45,6 +45,6 @@ abbrev pub shorter : List ℕ → List ℕ → List ℕ
 shorter xs ys = cond (leb (length xs) (length ys)) xs ys
 
 -- of equals the first is the smallest: onward and sideways are as long only where they are the same; they come ahead of what begins
--- with 0Ch, 0Dh or 0Ah 0Dh; and the jump, with 1Bh, is last. (Onward is the shorter over a line's end: from 18, 19 and 39)
+-- with 0Ch, 0Dh or 0Ah 0Dh; and the jump, with 1Bh, is last. (Over a line's end the way is onward from 18, 19 and 39 only)
 unfoldable pub ofFour : ℕ → ℕ → List ℕ
 ofFour a b = shorter (onward a b) (shorter (sideways a b) (shorter (fromStart a b) (jump b)))

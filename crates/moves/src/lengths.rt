@@ -76,7 +76,7 @@ pub(crate) fn from_start(from: u8, to: u8) -> u8
     n
 }
 
-// The way is onward or the jump: forward by less than a line, and not near a line's start. It may be so where this says no.
+// Onward or the jump has the fewest bytes: forward by at most 18, and not to column 0 or 1. They may where this says no.
 fn forward(from: u8, to: u8) -> bool
     requires { ⌜ (from < 40) × (to < 40) ⌝ }
     ensures { λ r. ⌜ (r ≡ true → (from ≤ to) × (dist from to ≡ min (to - from) 3)) ⌝ }
@@ -98,7 +98,7 @@ pub(crate) fn least_of_four(from: u8, to: u8) -> u8
     requires { ⌜ (from < 40) × (to < 40) ⌝ }
     ensures { λ r. ⌜ r ≡ dist from to ⌝ }
 {
-    // Most ways of a plan are so, and two of the lengths need not be worked out then.
+    // Most that come here are so, and two of the lengths need not be worked out then.
     if forward(from, to) {
         return least(to - from, 3);
     }
