@@ -45,11 +45,6 @@ struct state {
 };
 _Static_assert(sizeof(struct state) == 1 + SIGN_BLOCK + SIGN_TALLY + TTY_ROOM + BOOT_ROOM, "gaps");
 
-/* From any condition to power-up. A command may be half received: the longest wait is after 1Bh 43h
-   for a code and five bytes, so six 00h end it; where nothing is awaited 00h is ignored. (A user
-   character on 1Bh would be cured by the power switch only: none is ever defined there.) */
-static const uint8_t get_back[] = { 0, 0, 0, 0, 0, 0, 0x1B, 0x49 };
-
 /* All that this station sets; power-up forgets it: luminance 75 %, ADh is the Euro mark, the cursor
    is not shown, '>' is an arrow. Its dots go by rows, dot 1 is the lowest bit of the first byte:
        . . . . .    1 to 5
@@ -130,8 +125,8 @@ static int is_set(const struct state *s) {
     return same;
 }
 
-/* Takes block and tally from STATE. Answers NULL, or why there is doubt: then the block stays at
-   power-up, and the tally is still taken where it can be this wire's. */
+/* Takes block and tally from STATE. Answers NULL, or why there is doubt: then they are taken where
+   they can be this wire's, the tally to go on from and the block for what it says of a lost module. */
 static const char *load(void) {
     struct state s, power_up = sign;
     FILE *file = fopen(path, "rb");
@@ -140,6 +135,7 @@ static const char *load(void) {
     fclose(file);
     if (!whole) return "the state has a wrong length";
     if (memcmp(s.tty, sign.tty, TTY_ROOM) != 0) return "the state is of another TTY";
+    memcpy(sign.block, s.block, SIGN_BLOCK);
     memcpy(power_up.tally, s.tally, SIGN_TALLY);
     if (run(&power_up, settings, 0) == 0) memcpy(sign.tally, s.tally, SIGN_TALLY);
     if (s.mark != CERTAIN) return "the mark stands";
@@ -222,13 +218,22 @@ static void to_the_wire(const uint8_t *bytes, size_t n) {
 
 /* Brings the module out of doubt: settings made, glass blank. The mark is put first of all, and
    stands until the picture is saved: a host killed anywhere in between recovers again. STATE.lost
-   goes when the mark is safe and before a byte is sent: if it comes again it is a new loss. */
+   goes when the mark is safe and before a byte is sent: if it comes again it is a new loss.
+   The bytes are the same for every block, so they are asked for with that of power-up, which the
+   module has afterwards, unless it is lost: 1Bh is a user character, or is being made one. Nobody can
+   ask it; but where the last block that we have says so, who sees the sign is told. (This station
+   defines none on 1Bh.) */
 static void recover(void) {
+    uint8_t back[SIGN_BACK];
     SAY("recovering: %s", doubt);
     put_mark();
     if (unlink(path_lost) != 0 && errno != ENOENT) FAIL("remove", path_lost);
+    if (sign_recover(sign.block, SIGN_BLOCK, back, sizeof back) == SIGN_REFUSED + SIGN_LOST)
+        SAY("if the sign stays wrong, switch it off and on, then touch %s", path_lost);
     if (sign_power_up(j6, sign.block, SIGN_BLOCK) != 0) END("there is no font %u", (unsigned)j6);
-    to_the_wire(get_back, sizeof get_back);
+    uint32_t n = sign_recover(sign.block, SIGN_BLOCK, back, sizeof back);
+    if (n >= SIGN_REFUSED) END("there is no way back: %s", sign_refusal_text(n - SIGN_REFUSED));
+    to_the_wire(back, n);
     doubt = NULL;
     to_the_wire(settings, sizeof settings);
 }

@@ -6,7 +6,8 @@
    The sign is a block of 512 bytes that the host keeps and lends. sign_power_up makes one, sign_run
    does to it what the module does with bytes that are sent to it, and sign_plan works out the
    fewest bytes that change what it shows into a wanted picture; sign_plan_fonts takes a font for
-   each cell as well, and sign_reel takes up to 64 pictures that come in turn. sign_view, sign_dot,
+   each cell as well, and sign_reel takes up to 64 pictures that come in turn. sign_recover gives the
+   bytes that bring a module back to power-up, whatever it got before. sign_view, sign_dot,
    sign_underline and sign_lit say what the glass shows.
 
    Run first, send afterwards: bytes that sign_run refuses must not go to the wire, because the
@@ -20,7 +21,7 @@
 
    There is no state outside the buffers and no allocation: calls on different buffers may run at
    the same time on any threads. A buffer that is only read (bytes, codes, fonts, cursors, the block
-   of a plan, of a reel or of a question) may be shared by such calls. */
+   of a plan, of a reel, of a recovery or of a question) may be shared by such calls. */
 
 #ifndef SIGN_H
 #define SIGN_H
@@ -34,7 +35,7 @@ extern "C" {
 
 /* The version of the library that this header belongs to. */
 #define SIGN_VERSION_MAJOR 2
-#define SIGN_VERSION_MINOR 4
+#define SIGN_VERSION_MINOR 5
 
 #define SIGN_BLOCK      512   /* bytes of a block */
 #define SIGN_TALLY      16    /* bytes of a tally */
@@ -43,6 +44,7 @@ extern "C" {
 #define SIGN_FONTS_ROOM 104   /* bytes that sign_plan_fonts wants room for */
 #define SIGN_REEL       64    /* most pictures in one reel, and the bytes of its lengths; the output
                                  of a reel wants SIGN_ROOM for each picture */
+#define SIGN_BACK       8     /* bytes that sign_recover writes, and wants room for */
 #define SIGN_MOST       32768 /* most bytes in one run */
 
 /* Stack that a call needs on x86-64, in bytes, from its return address down, with all that it calls
@@ -53,6 +55,7 @@ extern "C" {
      sign_plan       805
      sign_plan_fonts 968
      sign_reel       1,157
+     sign_recover    592
      sign_view       656
      sign_dot        560
      sign_underline  544
@@ -63,9 +66,10 @@ extern "C" {
    besides. In a kernel or on bare metal the processor itself would write an interrupt's frame into
    the red zone: give interrupts a stack of their own (IST), or keep them off during a call. */
 
-/* Refusals: the lowest that holds is given (sign_reel looks at the whole call before any picture).
-   sign_run and sign_power_up answer the number itself, a plan 256 plus the number, a question
-   65,536 plus the number, a reel 65,536 plus 256 times the picture plus the number. */
+/* Refusals: the lowest that holds is given (but sign_reel looks at the whole call before any
+   picture, and sign_recover gives 11 before 10). sign_run and sign_power_up answer the number
+   itself, a plan and a recovery 256 plus the number, a question 65,536 plus the number, a reel
+   65,536 plus 256 times the picture plus the number. */
 enum sign_refusal {
     SIGN_ACCEPTED      = 0,
     SIGN_WRONG_LENGTH  = 1,  /* block not 512 bytes, tally not 16, codes not 40, fonts not 40; reel:
@@ -82,10 +86,14 @@ enum sign_refusal {
     SIGN_USER_ON_MOVE  = 8,  /* plan, reel: a user character stands on 08h, 09h, 0Ah, 0Ch, 0Dh or
                                 1Bh; sign_plan_fonts: or on 18h, 19h or 1Ah */
     SIGN_NO_CHARACTER  = 9,  /* plan, reel: a wanted code below 20h has no user character */
-    SIGN_NO_ROOM       = 10  /* the output is under 44 bytes for sign_plan, 104 for sign_plan_fonts,
-                                44 for each picture of sign_reel, 512 for a block */
+    SIGN_NO_ROOM       = 10, /* the output is under 44 bytes for sign_plan, 104 for sign_plan_fonts,
+                                44 for each picture of sign_reel, 8 for sign_recover, 512 for a
+                                block */
+    SIGN_LOST          = 11  /* sign_recover: 1Bh is a user character, or is just being made one;
+                                no bytes at all help, only the module's power switch */
 };
-#define SIGN_REFUSED       256   /* a plan's refusal is answered as this plus its number */
+#define SIGN_REFUSED       256   /* the refusal of a plan or of a recovery is answered as this plus
+                                    its number */
 #define SIGN_ASKED_REFUSED 65536 /* a question's refusal is answered as this plus its number */
 #define SIGN_REEL_REFUSED  65536 /* a reel that answers this or more is refused: sign_reel_picture
                                     and sign_reel_refusal take the answer apart */
@@ -182,6 +190,18 @@ uint32_t sign_reel(const uint8_t *block, size_t block_len,
                    uint8_t *lengths, size_t lengths_len,
                    uint8_t *out, size_t out_len);
 
+/* Writes to out the eight bytes that bring the module to power-up for its default font (since 2.5):
+   00 00 00 00 00 00 1B 49. Six 00h end any command that is half received, then comes Initialise.
+   They are the same for every block, and serve whatever the module is in the middle of, unless it
+   is lost. So where the block may not be what the module holds, as after a cable swap, make one by
+   sign_power_up, ask for that one, run the bytes on it and send them (docs/HOST.md, Recovery).
+   Answers 8, and nothing else of out changes; or 256 plus 1, 2, 3, 11 or 10, in this order, and then
+   out did not change. 11 says that a module in the block's condition is lost, and is given exactly
+   when no bytes at all, however many, bring it to power-up: 1Bh is a user character, or user data
+   for 1Bh is awaited, so no command can begin any more. Switch the module off and on then. */
+uint32_t sign_recover(const uint8_t *block, size_t block_len,
+                      uint8_t *out, size_t out_len);
+
 /* Of a reel's answer: the first picture that would be refused, 64 for none of them (the reel is
    accepted, or the whole call is refused); and the refusal, 0 where it is accepted. */
 static inline uint32_t sign_reel_picture(uint32_t answer) {
@@ -240,6 +260,7 @@ static inline const char *sign_refusal_text(uint32_t refusal) {
     case SIGN_USER_ON_MOVE:  return "a user character stands on a code that the plan needs";
     case SIGN_NO_CHARACTER:  return "a wanted code below 20h has no user character";
     case SIGN_NO_ROOM:       return "the output buffer is too small";
+    case SIGN_LOST:          return "no bytes bring the module back: switch it off and on";
     default:                 return "not a refusal number";
     }
 }

@@ -5,14 +5,14 @@
    7 sign_dot, 8 sign_underline, 9 sign_lit. Runs from power-up font 0: 10 of no byte, 11 of one character, 12 of 26
    bytes: 0Ch and 25 characters. 13 a plan in one font from a full glass to one character. Reels from power-up font 0:
    14 of no picture, 15 of 64 pictures (all 41h, cursor 39, and all 42h in turn), 16 of 64 that are those of 2, in turn
-   with a blank one, 17 the pictures of 16 by sign_plan and sign_run, one at a time. Prints what it called and the last
-   answer. */
+   with a blank one, 17 the pictures of 16 by sign_plan and sign_run, one at a time. Recovery: 18 from power-up font 0, 19
+   with 16 user characters, the youngest on 1Bh. Prints what it called and the last answer. */
 #include <stdio.h>
 #include <stdlib.h>
 #include <string.h>
 #include "sign.h"
 
-enum { KINDS = 18 };
+enum { KINDS = 20 };
 static uint8_t block[SIGN_BLOCK], tally[SIGN_TALLY], codes[SIGN_CELLS], fonts[SIGN_CELLS], out[SIGN_FONTS_ROOM];
 static uint8_t reel[SIGN_REEL * SIGN_CELLS], cursors[SIGN_REEL], lengths[SIGN_REEL], plans[SIGN_REEL * SIGN_ROOM];
 
@@ -21,7 +21,7 @@ static const char *const called[] = {
     "sign_plan_fonts, lower line Katakana", "sign_plan_fonts, the longest", "sign_view", "sign_dot", "sign_underline", "sign_lit",
     "sign_run, no byte", "sign_run, one character", "sign_run, 26 bytes", "sign_plan, from a full glass to one character",
     "sign_reel, no picture", "sign_reel, 64 pictures, every cell wrong", "sign_reel, 64 pictures, every second cell and blank",
-    "sign_plan and sign_run, the same 64 one at a time",
+    "sign_plan and sign_run, the same 64 one at a time", "sign_recover", "sign_recover, lost",
 };
 
 static uint32_t run(const uint8_t *bytes, size_t n) { return sign_run(block, sizeof block, tally, sizeof tally, bytes, n); }
@@ -66,6 +66,7 @@ static uint32_t reeled(int kind) {
 static uint32_t call(int kind) {
     static const uint8_t bytes[] = "\x0CGANGWAY 2   EMBARK RAMP B";
     static const size_t counts[] = {0, 1, 26};
+    if (kind >= 18) return sign_recover(block, sizeof block, out, sizeof out);
     if (kind >= 14) return reeled(kind);
     if (kind >= 10 && kind < 13) return run(bytes + (kind == 11), counts[kind - 10]);
     if (kind < 4 || kind == 13) return sign_plan(block, sizeof block, codes, sizeof codes, 0, out, sizeof out);
@@ -74,14 +75,14 @@ static uint32_t call(int kind) {
 }
 
 int main(int argc, char **argv) {
-    static const int gap[KINDS] = {SIGN_CELLS, 1, 2, 5, 1, 1, 1, 1, 1, 1, 1, 1, 1, SIGN_CELLS, 1, 1, 1, 1};
+    static const int gap[KINDS] = {SIGN_CELLS, 1, 2, 5, 1, 1, 1, 1, 1, 1, 1, 1, 1, SIGN_CELLS, 1, 1, 1, 1, 1, 1};
     static const uint8_t longest[] = {0x19, 0x1A, 0x1B, 0x48, 0x05};
     if (argc != 3) return 2;
     int kind = atoi(argv[1]) % KINDS, times = atoi(argv[2]);
     if (sign_power_up(0, block, sizeof block) != SIGN_ACCEPTED) return 1;
     if (kind == 5 && run(longest, sizeof longest) != SIGN_ACCEPTED) return 1;
-    for (uint8_t code = 0x80; kind >= 6 && kind < 10 && code < 0x90; code++) {
-        const uint8_t define[] = {0x0C, 0x1B, 0x43, code, 1, 2, 3, 4, 5, code};
+    for (uint8_t code = 0x80; ((kind >= 6 && kind < 10) || kind == 19) && code < 0x90; code++) {
+        const uint8_t define[] = {0x0C, 0x1B, 0x43, kind == 19 && code == 0x8F ? 0x1B : code, 1, 2, 3, 4, 5, code};
         if (run(define, sizeof define) != SIGN_ACCEPTED) return 1;
     }
     turns(kind);

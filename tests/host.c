@@ -313,6 +313,40 @@ static void reels(void) {
     check("reel 8", REEL(3, 512, 120, 64, 132) == SIGN_REEL_REFUSED + SIGN_USER_ON_MOVE);
 }
 
+/* The bytes of recovery, as docs/HOST.md has them: the test's arguments, in hex. */
+static uint8_t recovery[SIGN_BACK];
+
+/* What sign_recover answers, with so much room. */
+static uint32_t recover(size_t room) {
+    memset(out, 0xEE, sizeof out);
+    return sign_recover(block, sizeof block, out, room);
+}
+
+static int recovered(void) {
+    return recover(SIGN_BACK) == SIGN_BACK && memcmp(out, recovery, SIGN_BACK) == 0 && out[SIGN_BACK] == 0xEE;
+}
+
+/* Each number where much that comes behind it is wrong too: 1, 2, 3, 11, 10. */
+static void recoveries(void) {
+    uint8_t kept[SIGN_BLOCK];
+    AFTER(0x12, 0x41, 0x1B);
+    memcpy(kept, block, sizeof kept);
+    check("recovery", recovered() && memcmp(block, kept, sizeof kept) == 0);
+    check("recovery: more room", recover(sizeof out) == SIGN_BACK && out[SIGN_BACK] == 0xEE);
+    check("recovery 10", recover(SIGN_BACK - 1) == SIGN_REFUSED + SIGN_NO_ROOM && recover(0) == SIGN_REFUSED + SIGN_NO_ROOM);
+    AFTER(0x1B, 0x43, 0x1B, 1, 2, 3, 4, 5);
+    check("recovery 11", recover(SIGN_BACK) == SIGN_REFUSED + SIGN_LOST);
+    check("recovery 11 before 10", recover(0) == SIGN_REFUSED + SIGN_LOST && out[0] == 0xEE);
+    block[4] = 4; /* no mode; the check fits again */
+    block[510] += 15;
+    check("recovery 3", recover(0) == SIGN_REFUSED + SIGN_OUT_OF_RANGE);
+    block[500] = 1;
+    check("recovery 2", recover(0) == SIGN_REFUSED + SIGN_DAMAGED);
+    check("recovery 1", sign_recover(block, 511, out, 0) == SIGN_REFUSED + SIGN_WRONG_LENGTH);
+    check("recovery: out stays", out[0] == 0xEE);
+    check("recovery: in words", strcmp(sign_refusal_text(SIGN_LOST), "no bytes bring the module back: switch it off and on") == 0);
+}
+
 static void refusals(void) {
     static uint8_t longest[SIGN_MOST + 1];
     uint8_t kept[SIGN_BLOCK], zero[SIGN_TALLY] = {0};
@@ -430,9 +464,6 @@ static size_t ending(uint8_t *end) {
     }
 }
 
-/* The bytes of recovery, as docs/HOST.md has them: the test's arguments, in hex. */
-static uint8_t recovery[8];
-
 /* Each half-received command, with 0, 1 and 16 user characters: the advised bytes end it and change nothing
    else, but for the user character that is defined; and recovery leads back to power-up, 1Bh 49h alone does
    not. */
@@ -459,6 +490,7 @@ static void half_received(void) {
             memcpy(block, before, sizeof block);
             check("half a command again", run((const uint8_t *)halves[i], strlen(halves[i])) == 0);
             memcpy(before, block, sizeof before);
+            check("sign_recover", recovered());
             check("1Bh 49h alone", run(recovery + 6, 2) == 0 && memcmp(block, power_up, sizeof block) != 0);
             memcpy(block, before, sizeof block);
             check("recovery", run(recovery, sizeof recovery) == 0 && memcmp(block, power_up, sizeof block) == 0);
@@ -477,10 +509,14 @@ static void advice(void) {
     AFTER(0x1B, 0x43, 0x0A, 0, 0, 0, 0, 0);
     check("264: recovery", plan(0) == SIGN_REFUSED + SIGN_USER_ON_MOVE && run(recovery, sizeof recovery) == 0 && plan(0) < 256);
     AFTER(0x1B, 0x43, 0x1B, 0, 0, 0, 0, 0);
+    check("267", recover(SIGN_BACK) == SIGN_REFUSED + SIGN_LOST);
     check("264: a user character on 1Bh", run(recovery, sizeof recovery) == 0 && plan(0) == SIGN_REFUSED + SIGN_USER_ON_MOVE);
+    check("267: it is not blank, and ends in I", memcmp(block + SIGN_CODES_AT, "\x1BI", 2) == 0);
     AFTER(0x1B, 0x43, 0x1B);
+    check("267: 1Bh is just becoming one", recover(SIGN_BACK) == SIGN_REFUSED + SIGN_LOST);
     check("1Bh is just becoming one", run(recovery, sizeof recovery) == 0 && plan(0) == SIGN_REFUSED + SIGN_USER_ON_MOVE);
     AFTER(0x1B, 0x43);
+    check("a user code is awaited", recovered());
     check("1Bh 49h makes it one", run(recovery + 6, 2) == 0 && block[SIGN_HALF_CODE_AT] == 0x1B);
     after(want, 0);
     memcpy(tally, "\x00\x28\x6B\xEE", 4); /* 4,000,000,000 */
@@ -497,6 +533,7 @@ static void unread(void) {
         == SIGN_REFUSED + SIGN_WRONG_LENGTH);
     check("reel unread", sign_reel(nowhere, 511, want, sizeof want, fonts, 1, out, SIGN_REEL, out + SIGN_REEL, 0)
         == SIGN_REEL_REFUSED + 256 * SIGN_REEL + SIGN_WRONG_LENGTH);
+    check("recovery unread", sign_recover(nowhere, 511, out, sizeof out) == SIGN_REFUSED + SIGN_WRONG_LENGTH);
     check("questions unread", sign_view(nowhere, 200, 0) == SIGN_ASKED_REFUSED + SIGN_WRONG_LENGTH
         && sign_dot(nowhere, 511, 0x41, 1) == SIGN_ASKED_REFUSED + SIGN_WRONG_LENGTH
         && sign_underline(nowhere, 513, 0x41) == SIGN_ASKED_REFUSED + SIGN_WRONG_LENGTH
@@ -513,6 +550,7 @@ int main(int argc, char **argv) {
     fonts_refusals();
     memset(want, 0x20, sizeof want);
     reels();
+    recoveries();
     refusals();
     unread();
     places();

@@ -20,7 +20,7 @@ __asm__(".text\n"
         "memcpy: mov %rdi, %rax\n mov %rdx, %rcx\n rep movsb\n ret\n"
         "memset: mov %rdi, %r8\n mov %esi, %eax\n mov %rdx, %rcx\n rep stosb\n mov %r8, %rax\n ret\n");
 
-enum { POWER_UP, RUN, PLAN, PLAN_FONTS, REEL, VIEW, DOT, UNDERLINE, LIT, ENTRIES };
+enum { POWER_UP, RUN, PLAN, PLAN_FONTS, REEL, RECOVER, VIEW, DOT, UNDERLINE, LIT, ENTRIES };
 static struct {
     const char *name;
     uintptr_t function;
@@ -33,6 +33,7 @@ static struct {
     {"sign_plan", (uintptr_t)sign_plan, SIGN_REFUSED, {0}, 0},
     {"sign_plan_fonts", (uintptr_t)sign_plan_fonts, SIGN_REFUSED, {0}, 0},
     {"sign_reel", (uintptr_t)sign_reel, SIGN_REEL_REFUSED, {0}, 0},
+    {"sign_recover", (uintptr_t)sign_recover, SIGN_REFUSED, {0}, 0},
     {"sign_view", (uintptr_t)sign_view, SIGN_ASKED_REFUSED, {0}, 0},
     {"sign_dot", (uintptr_t)sign_dot, SIGN_ASKED_REFUSED, {0}, 0},
     {"sign_underline", (uintptr_t)sign_underline, SIGN_ASKED_REFUSED, {0}, 0},
@@ -71,6 +72,7 @@ static void ask(uint32_t cursor, int wrong) {
     for (uint64_t n = 0; n <= PICTURES; n += PICTURES)
         CALL(REEL, AT(block), whole, AT(reel), n * cells, AT(cursors), n, AT(lengths), SIGN_REEL - (wrong == 1), AT(plans),
              n * SIGN_ROOM - (n != 0 && wrong == 3));
+    CALL(RECOVER, AT(block), whole, AT(out), wrong == 3 ? SIGN_BACK - 1 : SIGN_BACK);
     for (uint64_t i = 0; i <= SIGN_CELLS; i++) CALL(VIEW, AT(block), whole, i);
     for (uint64_t code = 0; code <= 256; code++) {
         CALL(DOT, AT(block), whole, code, (code + cursor) % 37);

@@ -230,12 +230,9 @@ pub fn any_started(rng: &mut Rng) -> Half {
 
 /// A condition that commands led to from power-up.
 pub fn reached_condition(rng: &mut Rng) -> Condition {
-    let mut c = Condition::power_up(rng.below(2) as u8);
+    let c = Condition::power_up(rng.below(2) as u8);
     let length = rng.below(200);
-    for b in some_bytes(rng, length) {
-        c.take(b);
-    }
-    c
+    c.after(&some_bytes(rng, length))
 }
 
 /// Changes up to three bytes, and mostly puts the check right again.

@@ -1,10 +1,10 @@
-//! The 20x2 display module, written from its papers alone (document 01, the scope, requests W1 to W5 of
+//! The 20x2 display module, written from its papers alone (document 01, the scope, requests W1 to W7 of
 //! document 02, and source 000, the module's specification) and not from the product's code. The product
 //! is compared with it.
 //!
 //! In this order: the condition; what a byte does, with its busy time; the run and its tally; what a
 //! cell shows; the block; the planner of one font; the planner of two fonts, by search; two searches that
-//! confirm the fewest bytes of both; a reel of pictures; the host calls.
+//! confirm the fewest bytes of both; a reel of pictures; the way back to power-up, by search; the host calls.
 #![allow(dead_code)]
 
 pub const CELLS: usize = 40;
@@ -26,6 +26,9 @@ pub const PLANNERS_CODES: [u8; 6] = [0x08, 0x09, 0x0A, 0x0C, 0x0D, 0x1B];
 
 /// The same for the planner of two fonts, which also sends 18h, 19h and 1Ah.
 pub const FONTS_CODES: [u8; 9] = [0x08, 0x09, 0x0A, 0x0C, 0x0D, 0x1B, 0x18, 0x19, 0x1A];
+
+/// The bytes that get a lost module back: six 00h, then 1Bh 49h.
+pub const BACK: [u8; 8] = [0x00, 0x00, 0x00, 0x00, 0x00, 0x00, 0x1B, 0x49];
 
 /// The byte that clears, with which a plan may start.
 pub const CLEAR: u8 = 0x0E;
@@ -1178,6 +1181,63 @@ pub fn reel(from: &Condition, codes: &[u8], cursors: &[u8], room: usize, moves: 
     Ok(reel)
 }
 
+// ------------------------------------------------------------------------ the way back to power-up
+
+impl Condition {
+    /// What is left after these bytes.
+    pub fn after(&self, bytes: &[u8]) -> Condition {
+        let mut c = self.clone();
+        for &b in bytes {
+            c.take(b);
+        }
+        c
+    }
+
+    /// Power-up for the default font.
+    pub fn at_power_up(&self) -> bool {
+        *self == Condition::power_up(self.default_font)
+    }
+
+    /// Does any byte string at all, the empty one too, end in power-up for the default font? By search. Which commands
+    /// can come, now and later, is decided by what is half received, for which code and with how many bytes held, and by
+    /// whether ESC is a user character. So of the conditions that are alike in this one is followed, with all 256 bytes.
+    pub fn has_way_back(&self) -> bool {
+        self.at_power_up() || self.leads_back(&mut Vec::new())
+    }
+
+    fn leads_back(&self, seen: &mut Vec<(Half, bool)>) -> bool {
+        let kind = match self.half {
+            Half::UserData { code, count, .. } => Half::UserData {
+                code,
+                count,
+                held: [0; 4],
+            },
+            other => other,
+        };
+        let alike = (kind, self.is_user(0x1B));
+        if seen.contains(&alike) {
+            return false;
+        }
+        seen.push(alike);
+        let next: Vec<Condition> = (0..=255).map(|b| self.after(&[b])).collect();
+        next.iter().any(|c| c.at_power_up()) || next.iter().any(|c| c.leads_back(seen))
+    }
+}
+
+/// The eight bytes; or the refusal: 3, then 11 where no byte string ends in power-up, and only after it 10.
+pub fn recover(c: &Condition, room: usize) -> Result<[u8; 8], u32> {
+    if !c.well_formed() {
+        return Err(3);
+    }
+    if !c.has_way_back() {
+        return Err(11);
+    }
+    if room < BACK.len() {
+        return Err(10);
+    }
+    Ok(BACK)
+}
+
 // ------------------------------------------------------------------------------------ the host calls
 
 pub fn host_run(block: &mut [u8], tally: &mut [u8], bytes: &[u8]) -> u32 {
@@ -1221,6 +1281,17 @@ fn planned_answer(planned: Result<Vec<u8>, u32>, room: usize, out: &mut [u8]) ->
     match planned {
         Err(n) => 256 + n,
         Ok(_) if out.len() < room => 256 + 10,
+        Ok(bytes) => {
+            out[..bytes.len()].copy_from_slice(&bytes);
+            bytes.len() as u32
+        }
+    }
+}
+
+/// Answers 8, or 256 plus 1, 2, 3, 11 or 10, in this order.
+pub fn host_recover(block: &[u8], out: &mut [u8]) -> u32 {
+    match Condition::from_block(block).and_then(|c| recover(&c, out.len())) {
+        Err(n) => 256 + n,
         Ok(bytes) => {
             out[..bytes.len()].copy_from_slice(&bytes);
             bytes.len() as u32

@@ -107,11 +107,7 @@ fn each_bit(q: &mut Questions) {
         for bit in 0..40 {
             let mut dots = [0u8; 5];
             dots[bit / 8] = 1 << (bit % 8);
-            let mut c = Condition::power_up(0);
-            for b in inputs::define(code, dots) {
-                c.take(b);
-            }
-            q.all_of(&c);
+            q.all_of(&Condition::power_up(0).after(&inputs::define(code, dots)));
         }
     }
 }

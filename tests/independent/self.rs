@@ -671,6 +671,44 @@ fn reels_answered(r: &mut Report, moves: &Moves) {
     }
 }
 
+/// The way back: the bytes before, from power-up; the room; the answer to a host.
+fn recoveries(r: &mut Report) {
+    type Example<'a> = (&'a [u8], usize, u32);
+    let on_esc = inputs::define(0x1B, [1, 2, 3, 4, 5]);
+    let examples: [Example; 14] = [
+        (&[], 8, 8),
+        (&[0x41, 0x13, 0x19, 0x1A, 0x1B, 0x53], 44, 8),
+        (&[0x1B], 8, 8),
+        (&[0x1B, 0x48], 8, 8),
+        (&[0x1B, 0x4C], 8, 8),
+        (&[0x1B, 0x54], 8, 8),
+        (&[0x1B, 0x43], 8, 8),
+        (&[0x1B, 0x43, 0x1A, 0x1B], 8, 8),
+        (&[0x1B, 0x43], 7, 256 + 10),
+        // ESC is just being made a user character, with none to four bytes held, or has been made one
+        (&on_esc[..3], 8, 256 + 11),
+        (&on_esc[..7], 8, 256 + 11),
+        (&on_esc, 8, 256 + 11),
+        (&on_esc, 7, 256 + 11),
+        // Initialise without the six 00h makes it one
+        (&[0x1B, 0x43, 0x1B, 0x49], 0, 256 + 11),
+    ];
+    for (before, room, answer) in examples {
+        let (c, _) = after(before);
+        let mut out = vec![7; room];
+        let got = host_recover(&c.to_block(), &mut out);
+        let right = if answer == 8 {
+            out[..8] == BACK && out[8..].iter().all(|&x| x == 7) && c.after(&BACK).at_power_up()
+        } else {
+            out.iter().all(|&x| x == 7) && !(answer == 256 + 11 && c.after(&BACK).at_power_up())
+        };
+        r.cases += 1;
+        r.expect(got == answer && right, || {
+            format!("recovery after {}: answer {} and not {}", hex(before), answer, got)
+        });
+    }
+}
+
 /// Every byte keeps a condition well formed; blocks read back the same; runs in pieces end alike.
 fn conditions(r: &mut Report) {
     let mut rng = Rng::new(1);
@@ -721,8 +759,9 @@ fn main() {
     two_fonts_refused(&mut r, &moves);
     reels(&mut r, &moves);
     reels_answered(&mut r, &moves);
+    recoveries(&mut r);
     conditions(&mut r);
     // the bench sheet, the sample, examples by hand, ways, plans of two fonts, plans from a clear, refusals,
-    // reels and their answers, conditions and each byte on each
-    r.end("self", 15 + 2 + 31 + 1_603 + 2_017 + 12 + 15 + 10 + 22 + 3_000 + 768_000);
+    // reels and their answers, ways back, conditions and each byte on each
+    r.end("self", 15 + 2 + 31 + 1_603 + 2_017 + 12 + 15 + 10 + 22 + 14 + 3_000 + 768_000);
 }

@@ -45,6 +45,7 @@ extern "C" {
         out: *mut u8,
         out_len: usize,
     ) -> u32;
+    fn sign_recover(block: *const u8, block_len: usize, out: *mut u8, out_len: usize) -> u32;
     fn sign_power_up(font: u32, block: *mut u8, block_len: usize) -> u32;
     fn sign_view(block: *const u8, block_len: usize, position: u32) -> u32;
     fn sign_dot(block: *const u8, block_len: usize, code: u32, k: u32) -> u32;
@@ -118,6 +119,10 @@ pub fn reel(block: &[u8], codes: &[u8], cursors: &[u8], lengths: &mut [u8], out:
             out.len(),
         )
     }
+}
+
+pub fn recover(block: &[u8], out: &mut [u8]) -> u32 {
+    unsafe { sign_recover(block.as_ptr(), block.len(), out.as_mut_ptr(), out.len()) }
 }
 
 pub fn power_up(font: u32, block: &mut [u8]) -> u32 {

@@ -304,8 +304,7 @@ impl Bench {
                 "random" => state = self.rng.bytes(STATE_SIZE),
                 "of other settings" => state[1..TALLY_AT].copy_from_slice(&Condition::power_up(self.j6).to_block()),
                 "of other dots" => {
-                    let mut c = self.wire.module();
-                    inputs::define(b'>', [1; 5]).iter().for_each(|&b| drop(c.take(b)));
+                    let c = self.wire.module().after(&inputs::define(b'>', [1; 5]));
                     state[1..TALLY_AT].copy_from_slice(&c.to_block());
                 }
                 "of another J6" => self.j6 = 1 - self.j6,
@@ -325,13 +324,34 @@ impl Bench {
         }
     }
 
+    /// The module is lost, and so is the block of a state with the mark: the station says what to do, and the glass is
+    /// wrong. Then the module is switched off and on, and the station is told.
+    fn lost_modules(&mut self) {
+        for given in 0..=5 {
+            let sent = inputs::define(0x1B, [1, 2, 3, 4, 5]);
+            let module = self.wire.module().after(&sent[..3 + given]);
+            let mut state = self.saved();
+            state[0] = b'D';
+            state[1..TALLY_AT].copy_from_slice(&module.to_block());
+            fs::write(&self.state, state).expect("the state");
+            self.wire.put(module);
+            let (station, _) = self.rest();
+            let said = fs::read_to_string(format!("{}/said", self.directory)).unwrap_or_default();
+            let told = said.contains("switch it off and on, then touch");
+            let wrong = self.glass_is_wrong();
+            self.expect(told && wrong, &format!("a lost module, {} bytes given: said '{}'", given, said));
+            self.wire.put(Condition::power_up(self.j6));
+            self.touch_lost();
+            let line = station.line();
+            let wrong = self.wrong(&line);
+            self.judge("a lost module, switched off and on", wrong);
+        }
+    }
+
     /// A user character that came after the station's own is no other setting: nothing is made again.
     /// Answers the codes that the module then has, the oldest first.
     fn younger(&mut self) -> Vec<u8> {
-        let mut module = self.wire.module();
-        for b in inputs::define(0x02, [1, 2, 3, 4, 5]) {
-            module.take(b);
-        }
+        let module = self.wire.module().after(&inputs::define(0x02, [1, 2, 3, 4, 5]));
         let mut state = self.saved();
         state[1..TALLY_AT].copy_from_slice(&module.to_block());
         fs::write(&self.state, state).expect("the state");
@@ -475,6 +495,7 @@ fn main() {
     let untold = b.losses_untold();
     b.expect(untold > 0 || !boot_known, "a loss that nobody told is seen wrong");
     b.states();
+    b.lost_modules();
     let codes = b.younger();
     b.expect(
         codes == [b'>', 0x02] || !boot_known,

@@ -28,6 +28,8 @@ use Rattle.bench_sheet.specs.ClearSheet.{clearSheet}
 use Rattle.bench_sheet.specs.TallySheet.{AllCount, tallySheet}
 use Rattle.reel.specs.Reel.{picturesOf, plansOf, firstRefused, wholeRefusal, stopOf}
 use Rattle.bench_sheet.specs.ReelSheet.{reelSheet}
+use Rattle.recovery.specs.Recovery.{getBack, lost, recoverRefusal}
+use Rattle.bench_sheet.specs.RecoverySheet.{recoverySheet}
 use Rattle.bench_sheet.specs.MoveSheet.{table, numberIn, Tabled}
 use Rattle.moves.proofs.Grid.{listed, grid, grid-is}
 use Rattle.moves.proofs.Rule.{ruled}
@@ -100,6 +102,14 @@ unfolding powerUp runOf stepAt isChar isUser foundIn limitOf roomOf writeOf righ
     lineStart leaves firstByte pathOf path flagged planOf plan clearWins eitherBy onMove lacks someLacks refusalBy planRefusal
     picturesOf plansOf firstRefused wholeRefusal stopOf
 reel-bench = ((refl, refl), (refl, (refl, (refl, ((refl, refl), tt)))))
+
+-- and the cases for getting a lost module back
+pub recovery-bench : AllHold recoverySheet
+unfolding powerUp runOf stepAt isChar isUser foundIn limitOf roomOf writeOf rightOf controlOf escapeOf dataOf defineOf removed
+    without withYoungest putOf wellFormed numbersGood scrollGood allUpTo usersGood absent pendingGood escapeGood getBack lost
+    recoverRefusal
+recovery-bench =
+    ((refl, refl, refl), ((refl, refl, refl), ((refl, refl, refl), ((refl, refl), ((refl, refl), (((refl, refl), refl), tt))))))
 
 -- and the table of the move bytes, computed whole
 all-numbers : table ≡ grid dist

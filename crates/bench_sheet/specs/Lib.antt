@@ -3,4 +3,5 @@ pub mod FontsSheet
 pub mod ClearSheet
 pub mod TallySheet
 pub mod ReelSheet
+pub mod RecoverySheet
 pub mod MoveSheet

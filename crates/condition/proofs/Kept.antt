@@ -238,7 +238,7 @@ commands-kept c b s h g =
       begin = λ e n. await-kept c g Escape (rw e) refl (escape-free c s g n);
       ignored = g;
       await = λ e p z. await-kept c g p (rw e) z (no-escape c g (rw e));
-      initialise = good (powerUp (c .link)) (power-up-good (c .link) (g .link-1));
+      initialise = λ e. good (powerUp (c .link)) (power-up-good (c .link) (g .link-1));
       steady = λ e. flickerless-kept (withPending c Nothing) (ended (rw e) (rw e)) true;
       position =
           λ e. by-test Good (leb b 0x27)

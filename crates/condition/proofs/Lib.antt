@@ -2,6 +2,7 @@ pub mod Flags
 pub mod Characters
 pub mod Rows
 pub mod Each
+pub mod Aside
 pub mod Ranges
 pub mod Users
 pub mod Good

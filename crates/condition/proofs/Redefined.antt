@@ -24,7 +24,7 @@ held-four h d1 d2 d3 d4 e =
     sets-eq (d1 ∷ d2 ∷ d3 ∷ d4 ∷ []) h 0 (omega arith) ∙ rw none
 
 -- with nothing half received, and 1Bh no user code, 1Bh begins a command
-escaped : (c : Condition) → c .pending ≡ Nothing → isUser (c .users) 0x1B ≡ false → stepOf c 0x1B ≡ withPending c Escape
+pub escaped : (c : Condition) → c .pending ≡ Nothing → isUser (c .users) 0x1B ≡ false → stepOf c 0x1B ≡ withPending c Escape
 unfolding stepAt isChar controlOf
 escaped c e u = rw (e, u)
 

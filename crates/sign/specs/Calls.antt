@@ -25,6 +25,7 @@ use Rattle.reel.specs.declared.Stop.{Stop}
 use Rattle.reel.specs.declared.Reeled.{Reeled}
 use Rattle.reel.specs.Reel.{Picture, picturesOf, plansOf, naming64, matching, firstRefused, wholeRefusal, writtenBy, lengthsOf}
 use Rattle.reel.specs.Reel.{reelOut, PicturesInTurn, Promise}
+use Rattle.recovery.specs.Recovery.{getBack, PowersUp, NoWayBack, recoverRefusal, Exactly}
 
 -- The tally as four-byte numbers, low byte first -------------------------------------------------------------------------
 
@@ -136,6 +137,18 @@ pub record HostReelPromise (stop : Stop) (c : Condition) (pictures : List Pictur
 abbrev pub HostReel : List ℕ → List ℕ → List ℕ → List ℕ → List ℕ → ℕ → List ℕ → List ℕ → Type 0
 HostReel b codes cursors lent out r told left =
     HostReelPromise (hostReelStop b codes cursors lent out) (conditionIn b) (picturesOf codes cursors) lent out r told left
+
+-- Recovery ----------------------------------------------------------------------------------------------------------------
+
+-- 1: a block not 512 bytes; 2 and 3: as reading the block; then as recovery, 11 and only after it 10
+unfoldable pub hostRecoverRefusal : List ℕ → List ℕ → ℕ
+hostRecoverRefusal b out = hostRefusalBy true b (recoverRefusal (conditionIn b) (length out))
+
+-- What `sign_recover` promises: as a plan, of the eight bytes, which bring the module to power-up where it is accepted; and 267,
+-- which is 256 plus 11, is answered exactly when, for a block that is accepted, no byte string at all does
+pub record HostRecovers (b out : List ℕ) (r : ℕ) (left : List ℕ) : Type 0 where
+  pub gives : HostPromise (hostRecoverRefusal b out) getBack (PowersUp (conditionIn b)) out r left
+  pub exactly : Exactly (r ≡ 267) ((readRefusal b ≡ 0) × NoWayBack (conditionIn b))
 
 -- Power-up ----------------------------------------------------------------------------------------------------------------
 

@@ -5,7 +5,7 @@ ghost use lib.ListN.{length};
 ghost use Rattle.questions.specs.Questions.{hostView, hostDot, hostUnderline, hostLit};
 ghost use Rattle.sign.specs.Calls.{numberAt, fourBytes, tallyAt, tallyBytes};
 ghost use Rattle.sign.specs.Calls.{reelNumber, ReelsIn};
-ghost use Rattle.sign.specs.Calls.{HostRun, HostPlan, HostFonts, HostReel, HostPowerUp};
+ghost use Rattle.sign.specs.Calls.{HostRun, HostPlan, HostFonts, HostReel, HostRecovers, HostPowerUp};
 use condition::Condition;
 use host::Base;
 use interpreter::Tally;
@@ -203,6 +203,20 @@ pub extern "C" fn sign_reel(
     row::copy(lengths, &counts);
     let stop = r.stop;
     reel_number(stop, r.bytes)
+}
+
+// The bytes that bring the module back to power-up, for the block that is lent; answers 8, or 256 plus the refusal.
+#[no_mangle]
+pub extern "C" fn sign_recover(block: &[u8], out: &mut [u8]) -> u32
+    ensures { λ r. ⌜ HostRecovers (now (block .entry)) (now (out .entry)) r (now (out .exit)) ⌝ }
+{
+    let got = host::opened(block);
+    if got.refusal != 0 {
+        return host::answer(Base::Plan, got.refusal, 0);
+    }
+    let c = got.condition;
+    let back = recovery::recover(c, out);
+    host::answer(Base::Plan, back.refusal, back.length as u32)
 }
 
 // Writes the power-up block for a default font; answers 0 or the refusal.

@@ -2,14 +2,14 @@
 use Prim.Native.Nat.{ℕ, zero, suc, _+_, _-_, _*_, _<_, _≤_}
 use mathlib.Core.Path.{_≡_, refl, sym, _∙_}
 use mathlib.Core.List.{List}
-use mathlib.Core.Bool.{false}
+use mathlib.Core.Bool.{true, false}
 use native.Mathlib.Omega.{arith}
 use native.Mathlib.Nat.{add-zero}
 use lib.ListN.{length, getD}
 use lib.Seq.{length-sets}
 use lib.Dec.{eqb}
 use borrow.Author.Tests.{eqb-true, eqb-false}
-use Rattle.laws.proofs.Tests.{by-test, by-equal}
+use Rattle.laws.proofs.Tests.{by-cases, by-test, by-equal}
 use Rattle.laws.proofs.Lists.{sets-else, sets-there}
 use Rattle.users.specs.declared.Users.{Users}
 use Rattle.users.specs.declared.Found.{Found}
@@ -91,7 +91,7 @@ pub record Places (bound n : ℕ) (l : List ℕ) : Type 0 where
   pub rest : (i : ℕ) → n * 6 ≤ i → getD l i 0 ≡ 0
 
 -- a code that stands in none of the places
-abbrev New : ℕ → ℕ → List ℕ → Type 0
+abbrev pub New : ℕ → ℕ → List ℕ → Type 0
 New code n l = (i : ℕ) → i < n → getD l (i * 6) 0 ≡ code → ⊥
 
 -- one place taken out of those up to the youngest
@@ -107,17 +107,16 @@ removed-places bound n k youngest l p e h m =
       rest = rest-at l k youngest h m (λ i g. p .rest i (omega arith));
     }
 
--- a new code put last
-module _ (bound n code : ℕ) (l held : List ℕ) (last : ℕ) (p : Places bound n l) (new : New code n l) (in-l : n * 6 + 6 ≤ length l)
-    (low : last < bound) where
+-- a code put last
+module _ (n code : ℕ) (l held : List ℕ) (last : ℕ) (in-l : n * 6 + 6 ≤ length l) where
   code-there : getD (putOf l (n * 6) code held last) (n * 6) 0 ≡ code
   code-there = simp add-zero at (put-there l (n * 6) code held last 0 in-l (omega arith))
 
   code-else : (i : ℕ) → i < n → getD (putOf l (n * 6) code held last) (i * 6) 0 ≡ getD l (i * 6) 0
   code-else i h = put-else l (n * 6) code held last (i * 6) (λ j m e. omega arith)
 
-  put-places : Places bound (n + 1) (putOf l (n * 6) code held last)
-  put-places =
+  put-places : (bound : ℕ) → Places bound n l → New code n l → last < bound → Places bound (n + 1) (putOf l (n * 6) code held last)
+  put-places bound p new low =
       record {
         fifth =
             λ i h. by-equal i n (λ e. rw (e, put-there l (n * 6) code held last 5 in-l (omega arith)) low)
@@ -170,7 +169,7 @@ pub define-places : (bound : ℕ) (u : Users) (code : ℕ) → u .count ≤ room
 unfolding defineOf withYoungest
 define-places bound u code l p held last r low =
     let m = ready bound (u .bytes) (u .count) code l p r in
-    put-places bound _ code _ held last (m .places) (m .new) (m .fits) low
+    put-places _ code _ held last (m .fits) bound (m .places) (m .new) low
 
 -- How many there are then, and in how many bytes ----------------------------------------------------------------------------------
 
@@ -204,3 +203,58 @@ not-user u code l e = found-misses (u .bytes) (u .count) l code (missing (foundO
     missing : (f : Found) → isFound f ≡ false → f ≡ Missing
     missing Missing d = refl
     missing (At k) d = cc
+
+-- On which codes user characters sit then -----------------------------------------------------------------------------------------
+
+-- a code that stands in no place stands in none of those that are left
+without-new : (u : Users) (x : ℕ) (f : Found) → Fits (u .bytes) (u .count) f → New x (u .count) (u .bytes)
+    → New x (without f u .count) (without f u .bytes)
+unfolding without roomOf
+without-new u x (At k) h new =
+    λ i m y. new (came k i) (omega arith) (sym (code-left (u .bytes) k (u .count - 1) (omega arith) (omega arith) i m) ∙ y)
+without-new u x Missing h new = new
+
+-- and no user character sits on it
+pub new-code : (u : Users) (x : ℕ) → New x (u .count) (u .bytes) → u .count ≤ roomOf (u .bytes) → isUser u x ≡ false
+unfolding isUser
+new-code u x new l = go (foundOf u x) refl
+  where
+    go : (f : Found) → foundOf u x ≡ f → isFound f ≡ false
+    go Missing e = refl
+    go (At k) e = let p = found-holds (u .bytes) (u .count) l x k e in absurd (new k (p .0) (p .1))
+
+module _ (u : Users) (code : ℕ) (held : List ℕ) (last : ℕ) (r : 0 < roomOf (u .bytes)) where
+  abbrev left : Users
+  left = without (leavingOf u code) (inRoom u)
+
+  in-left : left .count * 6 + 6 ≤ length (left .bytes)
+  unfolding roomOf
+  in-left = omega (arith, left-fits u code r .0, left-fits u code r .1)
+
+  defined-most : defineOf u code held last .count ≤ roomOf (defineOf u code held last .bytes)
+  unfolding roomOf
+  defined-most = rw (define-length u code held last r) (define-most u code held last r)
+
+  -- on the code that is defined
+  pub defined-user : isUser (defineOf u code held last) code ≡ true
+  unfolding defineOf withYoungest
+  defined-user =
+      by-cases (isUser (defineOf u code held last) code) (λ e. e)
+      (λ e. absurd (not-user (defineOf u code held last) code defined-most e (left .count) (omega arith)
+      (code-there (left .count) code (left .bytes) held last in-left)))
+
+  -- and on no other on which none sat
+  pub other-user : (x : ℕ) → (x ≡ code → ⊥) → u .count ≤ roomOf (u .bytes) → isUser u x ≡ false
+      → isUser (defineOf u code held last) x ≡ false
+  unfolding defineOf withYoungest
+  other-user x other l e =
+      new-code (defineOf u code held last) x
+      (λ i m y. by-equal i (left .count)
+      (λ z. other (sym y ∙ rw z (code-there (left .count) code (left .bytes) held last in-left)))
+      (λ z. gone i (omega arith) (sym (code-else (left .count) code (left .bytes) held last in-left i (omega arith)) ∙ y)))
+      defined-most
+    where
+      gone : New x (left .count) (left .bytes)
+      gone =
+          without-new (inRoom u) x (leavingOf u code) (leaving-fits (u .bytes) (u .count) code _ _ r refl refl)
+          (rw (limit-count (u .bytes) (u .count) l) (not-user u x l e))

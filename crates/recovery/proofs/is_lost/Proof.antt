@@ -1,0 +1,25 @@
+use borrow.Author.Needs.{needs}
+use Rattle.users.specs.Users.{isUser}
+use Rattle.recovery.specs.Recovery.{lost}
+use Rattle.recovery.proofs.is_lost.Statement.{statement}
+use Rattle.recovery.proofs.is_lost.Tie as tie
+
+slice-aggregate-find : tie.Need-slice-aggregate-find
+slice-aggregate-find c = search needs
+
+find-requires : tie.Need-find-requires
+find-requires c κs = search needs
+
+is-found-requires : tie.Need-is-found-requires
+is-found-requires c κs = search needs
+
+makes-escape-requires : tie.Need-makes-escape-requires
+makes-escape-requires c κs = search needs
+
+returns : tie.Need-returns
+unfolding lost isUser
+returns c = rw (c .makes-escape .ensures, c .before .is-found .ensures, c .before .before .find .ensures)
+
+pub is-lost-spec : {M : Type 1} → statement M
+is-lost-spec =
+    tie.close (tie.spec slice-aggregate-find find-requires is-found-requires makes-escape-requires returns)
