@@ -179,7 +179,7 @@ refusal-of : (c : Condition) (t : Tally) (bs : List ℕ) → runAnswer c t bs .r
 unfolding runAnswer
 refusal-of c t bs = number-by (λ (r : Ran). r .refusal) (runRefusal c t bs) refl refl
 
-not-refused : (c : Condition) (t : Tally) (bs : List ℕ) → runAnswer c t bs .refusal ≡ 0 → runAnswer c t bs ≡ acceptedOf c t bs
+pub not-refused : (c : Condition) (t : Tally) (bs : List ℕ) → runAnswer c t bs .refusal ≡ 0 → runAnswer c t bs ≡ acceptedOf c t bs
 unfolding runAnswer
 not-refused c t bs =
     by-test (λ (r : Ran). r .refusal ≡ 0 → r ≡ acceptedOf c t bs) (eqb (runRefusal c t bs) 0) (λ _ _. refl)

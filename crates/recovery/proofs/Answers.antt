@@ -5,8 +5,8 @@ use mathlib.Core.List.{List}
 use Prim.Native.Nat.{ℕ, _≤_}
 use native.Mathlib.Omega.{arith}
 use lib.Dec.{ltb}
-use lib.ListN.{length}
-use lib.Seq.{take-all}
+use lib.ListN.{length, take}
+use lib.Seq.{take-all, take-append-seam}
 use borrow.Author.Tests.{ltb-false, not-false}
 use Rattle.laws.proofs.Tests.{by-cases, passed}
 use Rattle.row.specs.Row.{laid}
@@ -16,7 +16,7 @@ use Rattle.condition.proofs.Good.{Sized}
 use Rattle.planner.specs.declared.Planned.{Planned}
 use Rattle.planner.specs.Answer.{Promise}
 use Rattle.planner.specs.Plan.{atStart}
-use Rattle.planner.proofs.Refusals.{planned, refused, taken-on, one-plan}
+use Rattle.planner.proofs.Refusals.{planned, refused, taken-on, told, one-plan}
 use Rattle.recovery.specs.Recovery.{getBack, PowersUp, NoWayBack, lost, recoverRefusal, Exactly, Recovers}
 use Rattle.recovery.proofs.Lost.{no-way-back}
 use Rattle.recovery.proofs.Back.{back}
@@ -84,6 +84,16 @@ module _ (c : Condition) (out : List ℕ) (s : Sized c) (n : ℕ) (e : n ≡ rec
       let q : after ≡ atStart getBack out = p ∙ rw (take-all (length out) getBack (t .roomy)) in
       with-exactly c out after (planned 0 8) s
       (taken-on _ _ _ _ after 8 (sym e ∙ z) (back c s (t .formed) (t .found)) (refl, q))
+
+-- the bytes that are given for one condition serve from every other too that has a way back: so they can be sent to a module whose
+-- condition is not known
+pub from-any : (c : Condition) (before after : List ℕ) (r : Planned) → Recovers c before after r → r .refusal ≡ 0
+    → (d : Condition) → Sized d → wellFormed d ≡ true → (NoWayBack d → ⊥) → PowersUp d (take (r .length) after)
+from-any c before after r p z d s w way =
+    let n : recoverRefusal c (length before) ≡ 0 = sym (ap (λ (q : Planned). q .refusal) (p .gives .answer)) ∙ z in
+    let t = told _ _ _ _ after r n (p .gives) in
+    rw (t .0, t .1, take-append-seam getBack _)
+    (by-cases (lost d) (λ l. absurd (way (no-way-back d s w l))) (λ f. back d s w f))
 
 -- any two allowed answers, and what they leave in the buffer, are the same
 pub one-recovery : (c : Condition) (before a b : List ℕ) (r s : Planned) → Recovers c before a r → Recovers c before b s

@@ -121,13 +121,13 @@ module _ (b t bs : List ℕ) (h : length t ≡ 16) where
 -- ---- one run or several
 
 -- what an accepted run tells
-record Done (b t bs b′ t′ : List ℕ) : Type 0 where
+pub record Done (b t bs b′ t′ : List ℕ) : Type 0 where
   pub takes : ranOf b t bs .refusal ≡ 0
   pub sized : Sized (ranOf b t bs .condition)
   pub block : b′ ≡ blockOf (ranOf b t bs .condition)
   pub tally : t′ ≡ tallyBytes (ranOf b t bs .tally)
 
-done : {b t bs b′ t′ : List ℕ} → HostRun b t bs 0 b′ t′ → Done b t bs b′ t′
+pub done : {b t bs b′ t′ : List ℕ} → HostRun b t bs 0 b′ t′ → Done b t bs b′ t′
 unfolding hostRunRefusal hostRefusalBy readRefusal blockAfter tallyAfter
 done {b} {t} {bs} {b′} {t′} h =
     let e : hostRunRefusal b t bs ≡ 0 = sym (h .answer) in

@@ -1,27 +1,29 @@
 -- What the host's recovery answers: 256 plus 11 exactly when nothing helps.
-use mathlib.Core.Path.{_≡_, sym, _∙_, subst}
+use mathlib.Core.Path.{_≡_, sym, ap, _∙_, subst}
 use mathlib.Core.Bool.{true, not}
 use mathlib.Core.List.{List}
-use Prim.Native.Nat.{ℕ, _+_, _≤_}
+use Prim.Native.Nat.{ℕ, _+_, _<_, _≤_}
 use native.Mathlib.Omega.{arith}
 use lib.Dec.{eqb}
-use lib.ListN.{length}
+use lib.ListN.{length, take}
 use borrow.Author.Tests.{eq-eqb, ne-eqb, eqb-true, not-false}
 use Rattle.laws.proofs.Tests.{by-cases, by-test, by-equal, both, passed}
 use Rattle.condition.specs.declared.Condition.{Condition}
-use Rattle.condition.specs.Condition.{wellFormed}
+use Rattle.condition.specs.Condition.{wellFormed, powerUp}
 use Rattle.condition.proofs.Good.{Sized}
 use Rattle.layout.specs.Layout.{conditionIn}
 use Rattle.layout.proofs.PackedBack.{sized-in}
 use Rattle.block.specs.Block.{blockOf}
 use Rattle.block.specs.Reading.{sameBytes, intact, sound, readRefusal}
+use Rattle.interpreter.specs.declared.Ran.{Ran}
+use Rattle.interpreter.proofs.Answers.{not-refused}
 use Rattle.planner.specs.declared.Planned.{Planned}
 use Rattle.host.specs.declared.Base.the-variants.{Plan}
 use Rattle.host.specs.Host.{hostRefusalBy, hostAnswer}
 use Rattle.recovery.specs.Recovery.{getBack, PowersUp, recoverRefusal, Recovers}
 use Rattle.recovery.proofs.Answers.{exactly}
-use Rattle.sign.specs.Calls.{HostPromise, hostRecoverRefusal, HostRecovers}
-use Rattle.sign.proofs.Hosted.{one-host-plan}
+use Rattle.sign.specs.Calls.{tallyAt, HostRun, HostPromise, hostRecoverRefusal, HostRecovers}
+use Rattle.sign.proofs.Hosted.{done, one-host-plan}
 
 -- A block that is accepted --------------------------------------------------------------------------------------------------------
 
@@ -84,6 +86,14 @@ host-exactly b out r left p =
             p .answer ∙ rw (q .0, m),
       );
     }
+
+-- run on the block, the bytes leave that of power-up for the default font
+pub recovered-block : (b out t : List ℕ) (r : ℕ) (left b′ t′ : List ℕ) → HostRecovers b out r left → r < 256
+    → HostRun b t (take r left) 0 b′ t′ → b′ ≡ blockOf (powerUp (conditionIn b .link))
+recovered-block b out t r left b′ t′ p l h =
+    let d = done h in
+    let e = not-refused (conditionIn b) (tallyAt t) (take r left) (d .takes) in
+    d .block ∙ ap (λ (k : Ran). blockOf (k .condition)) e ∙ ap blockOf (p .gives .delivers l)
 
 -- any two allowed answers, and what they leave in the buffer, are the same
 pub one-host-recovery : (b out : List ℕ) (r s : ℕ) (x y : List ℕ) → HostRecovers b out r x → HostRecovers b out s y
