@@ -60,6 +60,7 @@ static const uint8_t settings[] = {
 
 static struct state sign; /* its mark is the one on the disk; 0: not known */
 static const char *doubt; /* why the module may not be in the block's condition; NULL: it is */
+static int perhaps_lost;  /* by the last block before a recovery nothing brings the module back */
 static char path[PATH_ROOM], path_new[PATH_ROOM], path_lost[PATH_ROOM]; /* STATE and beside it */
 static int wire, directory; /* open files: the TTY, and the directory of STATE */
 static uint32_t j6;
@@ -156,7 +157,7 @@ static void read_boot(void) {
 }
 
 /* Has somebody told us that the module is not as we left it? */
-static int lost(void) {
+static int told(void) {
     if (access(path_lost, F_OK) == 0) return 1;
     if (errno != ENOENT) FAIL("look for", path_lost);
     return 0;
@@ -219,17 +220,20 @@ static void to_the_wire(const uint8_t *bytes, size_t n) {
 /* Brings the module out of doubt: settings made, glass blank. The mark is put first of all, and
    stands until the picture is saved: a host killed anywhere in between recovers again. STATE.lost
    goes when the mark is safe and before a byte is sent: if it comes again it is a new loss.
-   The bytes are the same for every block, so they are asked for with that of power-up, which the
-   module has afterwards, unless it is lost: 1Bh is a user character, or is being made one. Nobody can
-   ask it; but where the last block that we have says so, who sees the sign is told. (This station
-   defines none on 1Bh.) */
+   The bytes are the same for every block, so they are asked for with that of power-up, which is the
+   module's afterwards, unless it is lost: 1Bh is a user character, or is being made one. (This station
+   makes none.) The module cannot be asked; but where the last block says so, the mark and that block
+   stay on the disk until somebody has switched the module off and on and told us. */
 static void recover(void) {
     uint8_t back[SIGN_BACK];
     SAY("recovering: %s", doubt);
     put_mark();
-    if (unlink(path_lost) != 0 && errno != ENOENT) FAIL("remove", path_lost);
-    if (sign_recover(sign.block, SIGN_BLOCK, back, sizeof back) == SIGN_REFUSED + SIGN_LOST)
-        SAY("if the sign stays wrong, switch it off and on, then touch %s", path_lost);
+    int was_told = unlink(path_lost) == 0;
+    if (!was_told && errno != ENOENT) FAIL("remove", path_lost);
+    uint32_t by_last = sign_recover(sign.block, SIGN_BLOCK, back, sizeof back);
+    perhaps_lost = !was_told && by_last == SIGN_REFUSED + SIGN_LOST;
+    SAY("%s, switch it off and on, then touch %s",
+        perhaps_lost ? "by the last block the sign is lost" : "if the sign does not go blank now", path_lost);
     if (sign_power_up(j6, sign.block, SIGN_BLOCK) != 0) END("there is no font %u", (unsigned)j6);
     uint32_t n = sign_recover(sign.block, SIGN_BLOCK, back, sizeof back);
     if (n >= SIGN_REFUSED) END("there is no way back: %s", sign_refusal_text(n - SIGN_REFUSED));
@@ -242,7 +246,7 @@ static void recover(void) {
 static int show(int i) {
     uint8_t plan[SIGN_ROOM];
     uint32_t n;
-    if (lost()) doubt = "STATE.lost is there";
+    if (told()) doubt = "STATE.lost is there";
     for (int tries = 0;; tries++) {
         if (doubt) recover();
         n = sign_plan(sign.block, SIGN_BLOCK, pictures[i], SIGN_CELLS, 0, plan, sizeof plan);
@@ -253,7 +257,7 @@ static int show(int i) {
         doubt = "the fault is the block's"; /* our own bytes do not lead there */
     }
     to_the_wire(plan, n);
-    if (sign.mark != CERTAIN) save(CERTAIN); /* else nothing was sent */
+    if (sign.mark != CERTAIN && !perhaps_lost) save(CERTAIN); /* else nothing was sent */
     printf("shown %d: [", i + 1);
     for (int p = 0; p < SIGN_CELLS; p++)
         printf("%s%c", p == 20 ? "|" : "", pictures[i][p] <= 0x7E ? pictures[i][p] : '?');
@@ -262,11 +266,11 @@ static int show(int i) {
     return 1;
 }
 
-/* Lets the picture stay. Answers 1 as soon as the module is lost: then it is to be shown again. */
+/* Lets the picture stay. Answers 1 as soon as we are told of a loss: then it is to be shown again. */
 static int hold(long ms) {
-    for (; ms > 0 && !lost(); ms -= LOOK_MS)
+    for (; ms > 0 && !told(); ms -= LOOK_MS)
         wait_us(1000 * (unsigned long)(ms < LOOK_MS ? ms : LOOK_MS));
-    return lost();
+    return told();
 }
 
 /* Answers how many pictures there are. */

@@ -324,8 +324,9 @@ impl Bench {
         }
     }
 
-    /// The module is lost, and so is the block of a state with the mark: the station says what to do, and the glass is
-    /// wrong. Then the module is switched off and on, and the station is told.
+    /// The module is lost, and so is the block of a state with the mark: the station says what to do, the glass is wrong,
+    /// and the mark stands, so that it is said again at the next start. Then the module is switched off and on, and the
+    /// station is told.
     fn lost_modules(&mut self) {
         for given in 0..=5 {
             let sent = inputs::define(0x1B, [1, 2, 3, 4, 5]);
@@ -335,15 +336,25 @@ impl Bench {
             state[1..TALLY_AT].copy_from_slice(&module.to_block());
             fs::write(&self.state, state).expect("the state");
             self.wire.put(module);
-            let (station, _) = self.rest();
-            let said = fs::read_to_string(format!("{}/said", self.directory)).unwrap_or_default();
-            let told = said.contains("switch it off and on, then touch");
-            let wrong = self.glass_is_wrong();
-            self.expect(told && wrong, &format!("a lost module, {} bytes given: said '{}'", given, said));
+            for start in ["first", "second"] {
+                let _ = self.rest();
+                let said = fs::read_to_string(format!("{}/said", self.directory)).unwrap_or_default();
+                let told = said.contains("the sign is lost, switch it off and on, then touch");
+                let wrong = self.glass_is_wrong() && self.is_marked();
+                let what = format!("a lost module, {} bytes given, {} start: said '{}'", given, start, said);
+                self.expect(told && wrong, &what);
+            }
+            // told while it runs, or while it does not
+            let station = if given % 2 == 0 { Some(self.rest().0) } else { None };
             self.wire.put(Condition::power_up(self.j6));
             self.touch_lost();
-            let line = station.line();
-            let wrong = self.wrong(&line);
+            let wrong = match station {
+                Some(station) => {
+                    let line = station.line();
+                    self.wrong(&line)
+                }
+                None => self.rest().1,
+            };
             self.judge("a lost module, switched off and on", wrong);
         }
     }

@@ -1,4 +1,5 @@
 use borrow.Author.Needs.{needs}
+use Rattle.laws.proofs.Tests.{by-cases}
 use Rattle.users.specs.Users.{isUser}
 use Rattle.recovery.specs.Recovery.{lost}
 use Rattle.recovery.proofs.is_lost.Statement.{statement}
@@ -16,9 +17,15 @@ is-found-requires c κs = search needs
 makes-escape-requires : tie.Need-makes-escape-requires
 makes-escape-requires c κs = search needs
 
+-- whichever of the two hold
 returns : tie.Need-returns
 unfolding lost isUser
-returns c = rw (c .makes-escape .ensures, c .before .is-found .ensures, c .before .before .find .ensures)
+returns c =
+    let m = c .makes-escape in
+    let f = c .before .is-found in
+    rw (← c .before .before .find .ensures, ← f .ensures, ← m .ensures)
+    (by-cases (f .result) (λ x. by-cases (m .result) (λ y. search (x, y)) (λ y. search (x, y)))
+    (λ x. by-cases (m .result) (λ y. search (x, y)) (λ y. search (x, y))))
 
 pub is-lost-spec : {M : Type 1} → statement M
 is-lost-spec =
