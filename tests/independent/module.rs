@@ -104,6 +104,11 @@ impl Condition {
         }
     }
 
+    /// It is that of power-up for its default font.
+    pub fn at_power_up(&self) -> bool {
+        *self == Condition::power_up(self.default_font)
+    }
+
     pub fn well_formed(&self) -> bool {
         let in_range = self.fonts.iter().all(|&f| f <= 1)
             && self.cursor < CELLS
@@ -148,6 +153,15 @@ impl Condition {
             quick,
             worst: quick + longer,
         }
+    }
+
+    /// The condition after these bytes.
+    pub fn after(&self, bytes: &[u8]) -> Condition {
+        let mut c = self.clone();
+        for &b in bytes {
+            c.take(b);
+        }
+        c
     }
 
     /// What the byte does, and its quick figure.
@@ -1184,23 +1198,11 @@ pub fn reel(from: &Condition, codes: &[u8], cursors: &[u8], room: usize, moves: 
 // ------------------------------------------------------------------------ the way back to power-up
 
 impl Condition {
-    /// What is left after these bytes.
-    pub fn after(&self, bytes: &[u8]) -> Condition {
-        let mut c = self.clone();
-        for &b in bytes {
-            c.take(b);
-        }
-        c
-    }
-
-    /// Power-up for the default font.
-    pub fn at_power_up(&self) -> bool {
-        *self == Condition::power_up(self.default_font)
-    }
-
-    /// Does any byte string at all, the empty one too, end in power-up for the default font? By search. Which commands
-    /// can come, now and later, is decided by what is half received, for which code and with how many bytes held, and by
-    /// whether ESC is a user character. So of the conditions that are alike in this one is followed, with all 256 bytes.
+    /// Does any byte string at all, the empty one too, end in power-up for the default font? By search, of a well-formed
+    /// condition. Which ESC commands can come, now and later, is decided by what is half received, for which code and
+    /// with how many bytes held, and by whether ESC is a user character. So of the conditions that are alike in this one
+    /// is followed, with all 256 bytes. (Where Initialise can never come, something stays half received or ESC stays a
+    /// user character, so that the others do not end in power-up either.)
     pub fn has_way_back(&self) -> bool {
         self.at_power_up() || self.leads_back(&mut Vec::new())
     }

@@ -14,6 +14,11 @@ use report::{first_difference, hex, Report};
 use rng::Rng;
 use sign::Lent;
 
+/// What the customer believes of a well-formed condition that nothing brings back.
+fn believed_lost(c: &Condition) -> bool {
+    c.is_user(0x1B) || matches!(c.half, Half::UserData { code: 0x1B, .. })
+}
+
 /// Refusals go up to 11.
 const NUMBERS: usize = 12;
 
@@ -79,7 +84,7 @@ impl Recovery {
         let block = c.to_block();
         let room = self.rng.pick(&[8, 8, 9, 44]);
         let refusal = self.call(&block, room);
-        let belief = c.is_user(0x1B) || matches!(c.half, Half::UserData { code: 0x1B, .. });
+        let belief = believed_lost(c);
         self.report.expect((refusal == 11) == belief, || {
             format!(
                 "refused by {} where it is {} that ESC is a user character or is being made one",
@@ -239,7 +244,7 @@ fn in_order(r: &mut Recovery) {
     for way in 0..32 {
         let wrong = |bit: usize| way >> bit & 1 == 1;
         let mut c = any_condition(&mut r.rng);
-        while c.count > 8 || c.is_user(0x1B) || matches!(c.half, Half::UserData { code: 0x1B, .. }) {
+        while c.count > 8 || believed_lost(&c) {
             c = any_condition(&mut r.rng);
         }
         c.mode = 1;

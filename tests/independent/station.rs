@@ -146,6 +146,12 @@ impl Bench {
         c
     }
 
+    /// What the station says where its last block is that of a lost module.
+    fn says_lost(&self) -> bool {
+        let said = fs::read_to_string(format!("{}/said", self.directory)).unwrap_or_default();
+        said.contains("by the last block the sign is lost, switch it off and on, then touch")
+    }
+
     fn glass_is_wrong(&self) -> bool {
         let (module, wanted) = (self.wire.module(), self.wanted());
         module.codes != wanted.codes || module.fonts != wanted.fonts
@@ -321,6 +327,8 @@ impl Bench {
             self.wire.put(module);
             let wrong = self.rest().1;
             self.judge(&format!("a state that is {}", fault), wrong);
+            let says_lost = self.says_lost();
+            self.expect(!says_lost, &format!("a state that is {} is not lost", fault));
         }
     }
 
@@ -338,11 +346,8 @@ impl Bench {
             self.wire.put(module);
             for start in ["first", "second"] {
                 let _ = self.rest();
-                let said = fs::read_to_string(format!("{}/said", self.directory)).unwrap_or_default();
-                let told = said.contains("the sign is lost, switch it off and on, then touch");
-                let wrong = self.glass_is_wrong() && self.is_marked();
-                let what = format!("a lost module, {} bytes given, {} start: said '{}'", given, start, said);
-                self.expect(told && wrong, &what);
+                let right = self.says_lost() && self.glass_is_wrong() && self.is_marked();
+                self.expect(right, &format!("a lost module, {} bytes given, {} start", given, start));
             }
             // told while it runs, or while it does not
             let station = if given % 2 == 0 { Some(self.rest().0) } else { None };
@@ -356,6 +361,10 @@ impl Bench {
                 None => self.rest().1,
             };
             self.judge("a lost module, switched off and on", wrong);
+            let (_station, wrong) = self.rest();
+            self.judge("a lost module, long since switched off and on", wrong);
+            let says_lost = self.says_lost();
+            self.expect(!says_lost, "it is no longer lost");
         }
     }
 

@@ -1,5 +1,4 @@
 -- Cases for getting a lost module back (document 02, W7), worked out by hand; each from power-up font 0.
-use Prim.Native.Nat.{ℕ}
 use mathlib.Core.Path.{_≡_}
 use mathlib.Core.List.{List, [], _∷_}
 use lib.ListN.{take}

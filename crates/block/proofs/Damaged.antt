@@ -1,5 +1,5 @@
 -- What is wrong with a block whatever condition stands in it, and what is then left to ask of that condition.
-use Prim.Native.Nat.{ℕ}
+use Prim.Native.Nat.{ℕ, _≤_}
 use mathlib.Core.Path.{_≡_, refl}
 use mathlib.Core.Bool.{Bool, true, false, cond, not, _&&_}
 use mathlib.Core.List.{List}
@@ -7,7 +7,7 @@ use native.Mathlib.Omega.{arith}
 use lib.Dec.{eqb}
 use lib.ListN.{length}
 use borrow.Author.Tests.{eqb-true, not-false}
-use Rattle.laws.proofs.Tests.{passed}
+use Rattle.laws.proofs.Tests.{by-test, passed}
 use Rattle.condition.specs.Condition.{wellFormed}
 use Rattle.layout.specs.Layout.{conditionIn, unpackedOf}
 use Rattle.layout.proofs.PackedBack.{enough}
@@ -37,3 +37,11 @@ whole-length b e = eqb-true (length b) 512 (not-false _ (passed (not (eqb (lengt
 
 pub whole-unpacked : (b : List ℕ) → damageOf b ≡ 0 → unpackedOf b ≡ conditionIn b
 whole-unpacked b e = enough b (omega (arith, whole-length b e))
+
+-- a reading is refused by 3 at most
+pub read-most : (b : List ℕ) → readRefusal b ≤ 3
+unfolding readRefusal
+read-most b =
+    by-test (λ (n : ℕ). n ≤ 3) (not (eqb (length b) 512)) (λ _. omega arith)
+    (λ _. by-test (λ (n : ℕ). n ≤ 3) (not (intact b)) (λ _. omega arith)
+    (λ _. by-test (λ (n : ℕ). n ≤ 3) (not (sound b)) (λ _. omega arith) (λ _. omega arith)))

@@ -51,7 +51,7 @@ reread c z w = rw (eq-eqb _ _ (length-block c z), intact-back c z, condition-bac
 -- What is accepted is written back the same --------------------------------------------------------------------------------
 
 -- an accepted block
-record Accepted (b : List ℕ) : Type 0 where
+pub record Accepted (b : List ℕ) : Type 0 where
   pub long : length b ≡ 512
   pub whole : intact b ≡ true
   pub formed : wellFormed (conditionIn b) ≡ true
@@ -62,7 +62,7 @@ answered : (b : List ℕ) → readRefusal b ≡ 0 → readAnswer b ≡ record { 
 unfolding readAnswer
 answered b e = rw (eq-eqb _ _ e)
 
-accepted : (b : List ℕ) → readRefusal b ≡ 0 → Accepted b
+pub accepted : (b : List ℕ) → readRefusal b ≡ 0 → Accepted b
 unfolding readRefusal sound
 accepted b e =
     let fits = wellFormed (conditionIn b) && sameBytes (blockOf (conditionIn b)) b in

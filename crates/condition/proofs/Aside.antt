@@ -1,13 +1,17 @@
--- What moves the cursor, writes or clears leaves aside: the user characters, the half-received command and the default font.
-use mathlib.Core.Path.{_≡_}
+-- What moves the cursor, writes or clears leaves aside: the user characters, the half-received command and the default font. The
+-- last no byte at all changes.
+use mathlib.Core.Path.{_≡_, refl, _∙_}
 use mathlib.Core.Bool.{_&&_}
+use mathlib.Core.List.{List}
 use Prim.Native.Nat.{ℕ}
-use lib.Dec.{eqb, ltb}
+use lib.Dec.{eqb, ltb, leb}
 use Rattle.laws.proofs.Tests.{by-test}
 use Rattle.condition.specs.declared.Condition.{Condition}
-use Rattle.condition.specs.Condition.{column}
+use Rattle.condition.specs.Condition.{column, powerUp}
 use Rattle.condition.specs.Set.{withCell}
 use Rattle.condition.specs.Bytes.{scrollOf, leftOf, rightOf, downOf, returnOf, clearOf, pushOf, writeOf}
+use Rattle.condition.specs.Bytes.{positionOf, dataOf, stepOf, runOf}
+use Rattle.condition.proofs.Each.{step-by, run-by}
 
 -- d has them as c has them
 pub record Aside (c d : Condition) : Type 0 where
@@ -49,3 +53,36 @@ write-aside c b =
     by-test (Aside c) (eqb (c .mode) 3 && eqb (column c) 19)
     (λ _. by-test (Aside c) (c .scrolling) (λ _. search) (λ _. search))
     (λ _. let a = right-aside (withCell c (c .cursor) b) in search)
+
+-- no byte changes the default font
+step-link : (c : Condition) (b : ℕ) → stepOf c b .link ≡ c .link
+unfolding positionOf dataOf powerUp
+step-link c b =
+    step-by (λ (d : Condition). d .link ≡ c .link) c b
+    (record {
+      write = write-aside c b .link;
+      left = left-aside c .link;
+      right = right-aside c .link;
+      down = down-aside c .link;
+      home = refl;
+      return = return-aside c .link;
+      clear = clear-aside c .link;
+      mode = λ m l h. refl;
+      shown = λ x. refl;
+      international = refl;
+      katakana = refl;
+      euro = refl;
+      begin = λ e n. refl;
+      ignored = refl;
+      await = λ e p z. refl;
+      initialise = λ e. refl;
+      steady = λ e. refl;
+      position = λ e. by-test (λ (d : Condition). d .link ≡ c .link) (leb b 0x27) (λ _. refl) (λ _. refl);
+      luminance = λ e. refl;
+      speed = λ e. refl;
+      code = λ e. refl;
+      user-data = λ code n e. by-test (λ (d : Condition). d .link ≡ c .link) (ltb n 4) (λ _. refl) (λ _. refl);
+    })
+
+pub run-link : (c : Condition) (bs : List ℕ) → runOf c bs .link ≡ c .link
+run-link c bs = run-by (λ (d : Condition). d .link ≡ c .link) (λ _. Unit {0}) (λ d b _ e. step-link d b ∙ e) c bs (λ _. tt) refl

@@ -11,7 +11,7 @@ use borrow.Author.Tests.{ltb-true, leb-true, le-leb, ne-eqb}
 use Rattle.laws.proofs.Tests.{both, neither, by-test}
 use Rattle.row.specs.Row.{lineStart, scrolled, shifted}
 use Rattle.users.specs.Users.{isUser}
-use Rattle.users.proofs.Places.{not-user, define-most}
+use Rattle.users.proofs.Places.{not-user, new-not-user, define-most}
 use Rattle.condition.specs.declared.Condition.{Condition}
 use Rattle.condition.specs.declared.Pending.{Pending}
 use Rattle.condition.specs.declared.Pending.the-variants.{Nothing, Escape, UserData}
@@ -22,7 +22,7 @@ use Rattle.condition.specs.Set.{withLuminance, withSpeed, withFlickerles
 use Rattle.condition.specs.Bytes.{scrollOf, leftOf, rightOf, downOf, returnOf, clearOf, pushOf, writeOf, isChar}
 use Rattle.condition.specs.Bytes.{positionOf, dataOf, stepOf, runOf}
 use Rattle.condition.proofs.Ranges.{up-to-set, up-to-append, up-to-cons, up-to-take, up-to-drop, up-to-replicate}
-use Rattle.condition.proofs.Users.{define-good, at-absent}
+use Rattle.condition.proofs.Users.{define-good, absent-at, at-absent}
 use Rattle.condition.proofs.Each.{Commands, step-by, run-by}
 use Rattle.condition.proofs.Good.{Good, good, formed, Sized, room-16, step-sized}
 
@@ -218,6 +218,12 @@ escape-free c s g e =
     at-absent 0x1B (c .users .count) (c .users .bytes)
     (not-user (c .users) 0x1B (omega (arith, room-16 c s, g .count-16))
     (neither (isUser (c .users) 0x1B) _ e .0))
+
+-- and where a command is half received it is none
+pub half-free : (c : Condition) → Sized c → Good c → idle (c .pending) ≡ false → isUser (c .users) 0x1B ≡ false
+half-free c s g e =
+    new-not-user (c .users) 0x1B (absent-at 0x1B (c .users .count) (c .users .bytes) (no-escape c g e))
+    (omega (arith, room-16 c s, g .count-16))
 
 pub commands-kept : (c : Condition) (b : ℕ) → Sized c → b < 256 → Good c → Commands Good c b
 unfolding positionOf

@@ -10,10 +10,10 @@ use Rattle.users.specs.Users.{isUser, foundOf}
 use Rattle.users.specs.declared.Found.the-variants.{At}
 use Rattle.users.proofs.Replaced.{Replaced, again}
 use Rattle.condition.specs.declared.Condition.{Condition}
-use Rattle.condition.specs.declared.Pending.the-variants.{Nothing, Escape}
+use Rattle.condition.specs.declared.Pending.the-variants.{Nothing}
 use Rattle.condition.specs.Condition.{wellFormed}
-use Rattle.condition.specs.Set.{withPending}
-use Rattle.condition.specs.Bytes.{isChar, controlOf, escapeOf, dataOf, stepOf, stepAt, runOf}
+use Rattle.condition.specs.Bytes.{escapeOf, dataOf, stepAt, runOf}
+use Rattle.condition.proofs.Characters.{escaped}
 use Rattle.condition.proofs.Good.{Sized, good, room-16}
 
 -- four bytes held, one after the other
@@ -22,11 +22,6 @@ held-four h d1 d2 d3 d4 e =
     let four : length h ≤ 4 = omega arith in
     let none : drop 4 h ≡ [] = drop-of-length-le h four in
     sets-eq (d1 ∷ d2 ∷ d3 ∷ d4 ∷ []) h 0 (omega arith) ∙ rw none
-
--- with nothing half received, and 1Bh no user code, 1Bh begins a command
-pub escaped : (c : Condition) → c .pending ≡ Nothing → isUser (c .users) 0x1B ≡ false → stepOf c 0x1B ≡ withPending c Escape
-unfolding stepAt isChar controlOf
-escaped c e u = rw (e, u)
 
 pub redefined : (c : Condition) (k code d1 d2 d3 d4 d5 : ℕ) → Sized c → wellFormed c ≡ true → c .pending ≡ Nothing
     → isUser (c .users) 0x1B ≡ false → foundOf (c .users) code ≡ At k

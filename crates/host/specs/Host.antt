@@ -23,7 +23,8 @@ openedOf b = cond (eqb (damageOf b) 0) (record { refusal = 0; condition = condit
 unfoldable pub hostRefusalBy : Bool → List ℕ → ℕ → ℕ
 hostRefusalBy long b n = cond (not long) 1 (cond (not (eqb (readRefusal b) 0)) (readRefusal b) n)
 
--- the base of the refusals: a plan answers its length or 256 plus the refusal, a question its value or 65,536 plus the refusal
+-- the base of the refusals: a plan or a recovery answers its length or 256 plus the refusal, a question its value or 65,536 plus
+-- the refusal
 abbrev pub baseOf : Base → ℕ
 baseOf Plan = 256
 baseOf Question = 65536

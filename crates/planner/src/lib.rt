@@ -13,7 +13,7 @@ pub const ROOM: usize = 44;
 
 pub const ROOM_FONTS: usize = 104;
 
-// What a planner answers: a refusal number, 0 when accepted, and the plan's length, 0 when refused.
+// What a planner, or a recovery, answers: a refusal number, 0 when accepted, and the plan's length, 0 when refused.
 pub struct Planned {
     pub refusal: u8,
     pub length: u8,

@@ -1,5 +1,6 @@
 -- What a refusal number says: 11 that nothing helps, 0 that the eight bytes do.
 use mathlib.Core.Path.{_≡_, refl, sym, ap, _∙_}
+use mathlib.Core.Logic.{_↔_}
 use mathlib.Core.Bool.{Bool, true, false, cond, not}
 use mathlib.Core.List.{List}
 use Prim.Native.Nat.{ℕ, _≤_}
@@ -17,7 +18,7 @@ use Rattle.planner.specs.declared.Planned.{Planned}
 use Rattle.planner.specs.Answer.{Promise}
 use Rattle.planner.specs.Plan.{atStart}
 use Rattle.planner.proofs.Refusals.{planned, refused, taken-on, told, one-plan}
-use Rattle.recovery.specs.Recovery.{getBack, PowersUp, NoWayBack, lost, recoverRefusal, Exactly, Recovers}
+use Rattle.recovery.specs.Recovery.{getBack, PowersUp, NoWayBack, lost, recoverRefusal, Recovers}
 use Rattle.recovery.proofs.Lost.{no-way-back}
 use Rattle.recovery.proofs.Back.{back}
 
@@ -45,7 +46,7 @@ eight : allUpTo 255 getBack ≡ true
 unfolding allUpTo getBack
 eight = refl
 
--- 11 is given exactly when nothing helps
+-- 11 says that the condition is well formed and lost
 told-lost : (c : Condition) (room : ℕ) → recoverRefusal c room ≡ 11 → (wellFormed c ≡ true) × (lost c ≡ true)
 unfolding recoverRefusal
 told-lost c room e = go (wellFormed c) (lost c) (ltb room 8) e
@@ -56,7 +57,8 @@ told-lost c room e = go (wellFormed c) (lost c) (ltb room 8) e
     go true false false f = absurd (omega arith)
     go false l s f = absurd (omega arith)
 
-pub exactly : (c : Condition) (room : ℕ) → Sized c → Exactly (recoverRefusal c room ≡ 11) ((wellFormed c ≡ true) × NoWayBack c)
+-- it is given exactly when nothing helps
+pub exactly : (c : Condition) (room : ℕ) → Sized c → (recoverRefusal c room ≡ 11) ↔ ((wellFormed c ≡ true) × NoWayBack c)
 unfolding recoverRefusal
 exactly c room s = (
   λ e. let p = told-lost c room e in (p .0, no-way-back c s (p .0) (p .1)),
@@ -66,10 +68,7 @@ exactly c room s = (
 -- the same of an answer by that number
 with-exactly : (c : Condition) (before after : List ℕ) (r : Planned) → Sized c
     → Promise (recoverRefusal c (length before)) getBack (PowersUp c) before after r → Recovers c before after r
-with-exactly c before after r s p =
-    let n : r .refusal ≡ recoverRefusal c (length before) = ap (λ (q : Planned). q .refusal) (p .answer) in
-    let e = exactly c (length before) s in
-    record { gives = p; exactly = (λ h. e .0 (sym n ∙ h), λ q. n ∙ e .1 q) }
+with-exactly c before after r s p = record { gives = p; exactly = rw (p .answer) (exactly c (length before) s) }
 
 module _ (c : Condition) (out : List ℕ) (s : Sized c) (n : ℕ) (e : n ≡ recoverRefusal c (length out)) where
   -- refused, nothing changes

@@ -1,14 +1,15 @@
 -- Once ESC is a user character, or is just being made one, every byte leaves it so: no byte string ends in power-up.
 use mathlib.Core.Path.{_≡_, refl, sym, _∙_}
-use mathlib.Core.Bool.{Bool, true, false, or-false}
+use mathlib.Core.Bool.{Bool, true, false, cond, or-false}
+use mathlib.Core.List.{List}
 use Prim.Native.Nat.{ℕ, _%_}
 use native.Mathlib.Omega.{arith}
 use lib.Dec.{eqb, ltb}
 use borrow.Author.Tests.{eqb-true}
-use Rattle.laws.proofs.Tests.{clash, by-test}
+use Rattle.laws.proofs.Tests.{clash, by-cases, by-test}
 use Rattle.users.specs.declared.Users.{Users}
 use Rattle.users.specs.Users.{isUser, roomOf, limitOf, foundIn}
-use Rattle.users.proofs.Places.{new-code, defined-user}
+use Rattle.users.proofs.Places.{defined-user}
 use Rattle.condition.specs.declared.Condition.{Condition}
 use Rattle.condition.specs.declared.Pending.{Pending}
 use Rattle.condition.specs.declared.Pending.the-variants.{Nothing, Escape, Position, Luminance, Speed, UserCode, UserData}
@@ -17,46 +18,24 @@ use Rattle.condition.specs.Bytes.{dataOf, stepOf}
 use Rattle.condition.proofs.Characters.{user-char}
 use Rattle.condition.proofs.Aside.{Aside, left-aside, right-aside, down-aside, return-aside, clear-aside, write-aside}
 use Rattle.condition.proofs.Each.{Commands, step-by, run-by}
-use Rattle.condition.proofs.Good.{Good, good, Sized, room-16, step-sized}
-use Rattle.condition.proofs.Kept.{no-escape}
-use Rattle.condition.proofs.Users.{absent-at}
-use Rattle.recovery.specs.Recovery.{makesEscape, lost, NoWayBack}
+use Rattle.condition.proofs.Good.{idle-is, good, Sized, room-16, step-sized}
+use Rattle.condition.proofs.Kept.{half-free}
+use Rattle.recovery.specs.Recovery.{PowersUp, makesEscape, lost, NoWayBack}
 
 -- ESC is a user character and nothing is half received, or it is just being made one
-abbrev stuck : Users → Pending → Bool
-stuck u Nothing = isUser u 0x1B
-stuck u Escape = false
-stuck u Position = false
-stuck u Luminance = false
-stuck u Speed = false
-stuck u UserCode = false
-stuck u (UserData code n) = eqb code 0x1B
+abbrev stuckBy : Users → Pending → Bool
+stuckBy u p = cond (idle p) (isUser u 0x1B) (makesEscape p)
 
 abbrev Stuck : Condition → Type 0
-Stuck c = stuck (c .users) (c .pending) ≡ true
+Stuck c = stuckBy (c .users) (c .pending) ≡ true
 
--- Where a command is half received ESC is no user character, so a lost condition is one of the two -------------------------------
-
-half-free : (c : Condition) → Sized c → Good c → idle (c .pending) ≡ false → isUser (c .users) 0x1B ≡ false
-half-free c s g e =
-    new-code (c .users) 0x1B (absent-at 0x1B (c .users .count) (c .users .bytes) (no-escape c g e))
-    (omega (arith, room-16 c s, g .count-16))
-
+-- where a command is half received ESC is no user character, so a lost condition is one of the two
 lost-stuck : (c : Condition) → Sized c → wellFormed c ≡ true → lost c ≡ true → Stuck c
 unfolding lost
-lost-stuck c s w l = go (c .pending) refl
-  where
-    half : idle (c .pending) ≡ false → makesEscape (c .pending) ≡ true
-    half e = rw (half-free c s (good c w) e) at l
-
-    go : (p : Pending) → c .pending ≡ p → stuck (c .users) p ≡ true
-    go Nothing e = sym (or-false (isUser (c .users) 0x1B)) ∙ (rw e at l)
-    go Escape e = rw e at (half (rw e))
-    go Position e = rw e at (half (rw e))
-    go Luminance e = rw e at (half (rw e))
-    go Speed e = rw e at (half (rw e))
-    go UserCode e = rw e at (half (rw e))
-    go (UserData code n) e = rw e at (half (rw e))
+lost-stuck c s w l =
+    by-cases (idle (c .pending))
+    (λ i. let e = idle-is (c .pending) i in rw e (sym (or-false (isUser (c .users) 0x1B)) ∙ (rw e at l)))
+    (λ i. rw i (rw (half-free c s (good c w) i) at l))
 
 -- Every byte keeps it ------------------------------------------------------------------------------------------------------------
 
@@ -65,7 +44,7 @@ module _ (c : Condition) (b : ℕ) (s : Sized c) (k : Stuck c) where
   keeps d a = rw (a .users, a .pending) k
 
   -- no other command is half received
-  waiting : {A : Type 0} (p : Pending) → c .pending ≡ p → stuck (c .users) p ≡ false → A
+  waiting : {A : Type 0} (p : Pending) → c .pending ≡ p → stuckBy (c .users) p ≡ false → A
   waiting p e f = clash k (rw e f)
 
   -- the next byte of its data is held, or makes it a user character
@@ -107,12 +86,16 @@ step-stuck : (c : Condition) (b : ℕ) → Sized c × Stuck c → Sized (stepOf 
 step-stuck c b p = (step-sized c b (p .0), step-by Stuck c b (commands-stuck c b (p .0) (p .1)))
 
 -- power-up has no user character
-power-up-free : (f : ℕ) → stuck (powerUp f .users) (powerUp f .pending) ≡ false
+power-up-free : (f : ℕ) → stuckBy (powerUp f .users) (powerUp f .pending) ≡ false
 unfolding powerUp isUser foundIn limitOf roomOf
 power-up-free f = refl
 
-pub no-way-back : (c : Condition) → Sized c → wellFormed c ≡ true → lost c ≡ true → NoWayBack c
-no-way-back c s w l bytes _ e =
+-- whatever numbers come
+never-back : (c : Condition) → Sized c → wellFormed c ≡ true → lost c ≡ true → (bytes : List ℕ) → PowersUp c bytes → ⊥
+never-back c s w l bytes e =
     let p = run-by (λ (d : Condition). Sized d × Stuck d) (λ _. Unit {0}) (λ d b _. step-stuck d b) c bytes (λ _. tt)
     (s, lost-stuck c s w l) in
     clash (rw e at (p .1)) (power-up-free (c .link))
+
+pub no-way-back : (c : Condition) → Sized c → wellFormed c ≡ true → lost c ≡ true → NoWayBack c
+no-way-back c s w l bytes _ = never-back c s w l bytes

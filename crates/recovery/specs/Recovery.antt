@@ -1,6 +1,7 @@
 -- Getting a lost module back (document 02, W7).
 use Prim.Native.Nat.{ℕ}
 use mathlib.Core.Path.{_≡_}
+use mathlib.Core.Logic.{_↔_}
 use mathlib.Core.Bool.{Bool, true, false, cond, not, _||_}
 use mathlib.Core.List.{List, [], _∷_, _++_}
 use lib.ListN.{length, replicate}
@@ -50,13 +51,9 @@ recoverRefusal c room = cond (not (wellFormed c)) 3 (cond (lost c) 11 (cond (ltb
 
 -- Answers -------------------------------------------------------------------------------------------------------------------------
 
--- the one where the other is, and nowhere else
-abbrev pub Exactly : Type 0 → Type 0 → Type 0
-Exactly A B = (A → B) × (B → A)
-
 -- What `recover` promises of its answer r and of the output at exit: as a planner, by its refusal number and the eight bytes, which
 -- bring the module to power-up where it is accepted; and 11 is given exactly when, for a well-formed condition, no byte string at
 -- all does
 pub record Recovers (c : Condition) (before after : List ℕ) (r : Planned) : Type 0 where
   pub gives : Promise (recoverRefusal c (length before)) getBack (PowersUp c) before after r
-  pub exactly : Exactly (r .refusal ≡ 11) ((wellFormed c ≡ true) × NoWayBack c)
+  pub exactly : (r .refusal ≡ 11) ↔ ((wellFormed c ≡ true) × NoWayBack c)

@@ -1,59 +1,31 @@
 -- What the host's recovery answers: 256 plus 11 exactly when nothing helps.
 use mathlib.Core.Path.{_≡_, sym, ap, _∙_, subst}
-use mathlib.Core.Bool.{true, not}
+use mathlib.Core.Logic.{_↔_}
+use mathlib.Core.Bool.{true}
 use mathlib.Core.List.{List}
 use Prim.Native.Nat.{ℕ, _+_, _<_, _≤_}
 use native.Mathlib.Omega.{arith}
 use lib.Dec.{eqb}
 use lib.ListN.{length, take}
-use borrow.Author.Tests.{eq-eqb, ne-eqb, eqb-true, not-false}
-use Rattle.laws.proofs.Tests.{by-cases, by-test, by-equal, both, passed}
+use borrow.Author.Tests.{eq-eqb, ne-eqb, eqb-true}
+use Rattle.laws.proofs.Tests.{by-cases, by-equal}
 use Rattle.condition.specs.declared.Condition.{Condition}
 use Rattle.condition.specs.Condition.{wellFormed, powerUp}
-use Rattle.condition.proofs.Good.{Sized}
 use Rattle.layout.specs.Layout.{conditionIn}
 use Rattle.layout.proofs.PackedBack.{sized-in}
 use Rattle.block.specs.Block.{blockOf}
-use Rattle.block.specs.Reading.{sameBytes, intact, sound, readRefusal}
+use Rattle.block.specs.Reading.{readRefusal}
+use Rattle.block.proofs.Damaged.{read-most}
+use Rattle.block.proofs.RoundTrip.{accepted}
 use Rattle.interpreter.specs.declared.Ran.{Ran}
 use Rattle.interpreter.proofs.Answers.{not-refused}
 use Rattle.planner.specs.declared.Planned.{Planned}
 use Rattle.host.specs.declared.Base.the-variants.{Plan}
 use Rattle.host.specs.Host.{hostRefusalBy, hostAnswer}
-use Rattle.recovery.specs.Recovery.{getBack, PowersUp, recoverRefusal, Recovers}
+use Rattle.recovery.specs.Recovery.{getBack, PowersUp, NoWayBack, recoverRefusal, Recovers}
 use Rattle.recovery.proofs.Answers.{exactly}
 use Rattle.sign.specs.Calls.{tallyAt, HostRun, HostPromise, hostRecoverRefusal, HostRecovers}
 use Rattle.sign.proofs.Hosted.{done, one-host-plan}
-
--- A block that is accepted --------------------------------------------------------------------------------------------------------
-
-abbrev Most : ℕ → Type 0
-Most n = n ≤ 3
-
-read-most : (b : List ℕ) → readRefusal b ≤ 3
-unfolding readRefusal
-read-most b =
-    by-test Most (not (eqb (length b) 512)) (λ _. omega arith)
-    (λ _. by-test Most (not (intact b)) (λ _. omega arith)
-    (λ _. by-test Most (not (sound b)) (λ _. omega arith) (λ _. omega arith)))
-
-record Taken (b : List ℕ) : Type 0 where
-  sized : Sized (conditionIn b)
-  formed : wellFormed (conditionIn b) ≡ true
-
-taken : (b : List ℕ) → readRefusal b ≡ 0 → Taken b
-unfolding readRefusal sound
-taken b e =
-    let p1 = passed (not (eqb (length b) 512)) _ _ e in
-    let p2 = passed (not (intact b)) _ _ (p1 .1) in
-    let p3 = passed (not (sound b)) _ _ (p2 .1) in
-    let l : length b ≡ 512 = eqb-true (length b) 512 (not-false _ (p1 .0)) in
-    record {
-      sized = sized-in b (omega arith);
-      formed = both (wellFormed (conditionIn b)) (sameBytes (blockOf (conditionIn b)) b) (not-false _ (p3 .0)) .0;
-    }
-
--- The answer ----------------------------------------------------------------------------------------------------------------------
 
 -- the refusal is 11 where the block is accepted and the call refuses so
 eleven : (b : List ℕ) (n : ℕ) → hostRefusalBy true b n ≡ 11 → (readRefusal b ≡ 0) × (n ≡ 11)
@@ -78,14 +50,16 @@ host-exactly b out r left p =
       exactly = (
         λ e.
             let m = eleven b (recoverRefusal (conditionIn b) (length out)) (number-267 _ 8 (omega arith) (sym (p .answer) ∙ e)) in
-            let t = taken b (m .0) in
-            (m .0, exactly (conditionIn b) (length out) (t .sized) .0 (m .1) .1),
+            (m .0, told (m .0) .0 (m .1) .1),
         λ q.
-            let t = taken b (q .0) in
-            let m = exactly (conditionIn b) (length out) (t .sized) .1 (t .formed, q .1) in
+            let m = told (q .0) .1 (accepted b (q .0) .formed, q .1) in
             p .answer ∙ rw (q .0, m),
       );
     }
+  where
+    told : readRefusal b ≡ 0
+        → (recoverRefusal (conditionIn b) (length out) ≡ 11) ↔ ((wellFormed (conditionIn b) ≡ true) × NoWayBack (conditionIn b))
+    told z = exactly (conditionIn b) (length out) (sized-in b (omega (arith, accepted b z .long)))
 
 -- run on the block, the bytes leave that of power-up for the default font
 pub recovered-block : (b out t : List ℕ) (r : ℕ) (left b′ t′ : List ℕ) → HostRecovers b out r left → r < 256

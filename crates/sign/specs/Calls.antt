@@ -2,6 +2,7 @@
 -- block, running or planning, and writing back.
 use Prim.Native.Nat.{ℕ, _+_, _*_, _%_, _/_, _<_}
 use mathlib.Core.Path.{_≡_}
+use mathlib.Core.Logic.{_↔_}
 use mathlib.Core.Bool.{Bool, true, false, cond, not, _&&_}
 use mathlib.Core.List.{List, [], _∷_, _++_, flatten}
 use lib.ListN.{length, getD, take, drop}
@@ -25,7 +26,7 @@ use Rattle.reel.specs.declared.Stop.{Stop}
 use Rattle.reel.specs.declared.Reeled.{Reeled}
 use Rattle.reel.specs.Reel.{Picture, picturesOf, plansOf, naming64, matching, firstRefused, wholeRefusal, writtenBy, lengthsOf}
 use Rattle.reel.specs.Reel.{reelOut, PicturesInTurn, Promise}
-use Rattle.recovery.specs.Recovery.{getBack, PowersUp, NoWayBack, recoverRefusal, Exactly}
+use Rattle.recovery.specs.Recovery.{getBack, PowersUp, NoWayBack, recoverRefusal}
 
 -- The tally as four-byte numbers, low byte first -------------------------------------------------------------------------
 
@@ -76,9 +77,9 @@ unfoldable pub hostFontsRefusal : List ℕ → List ℕ → List ℕ → ℕ →
 hostFontsRefusal b codes fonts cursor out =
     hostRefusalBy (eqb (length codes) 40 && eqb (length fonts) 40) b (fontsRefusal (conditionIn b) codes fonts cursor (length out))
 
--- The answer r of a plan, which is its length or 256 plus the refusal, and what it leaves in the buffer, by its refusal number
--- and its bytes: a refused one leaves it as it was, and an answer below 256 says that so many bytes stand at its start, which
--- are what the plan is for
+-- The answer r of a plan, or of a recovery, which is its length or 256 plus the refusal, and what it leaves in the buffer, by its
+-- refusal number and its bytes: a refused one leaves it as it was, and an answer below 256 says that so many bytes stand at its
+-- start, which are what it is for
 pub record HostPromise (number : ℕ) (bytes : List ℕ) (For : List ℕ → Type 0) (out : List ℕ) (r : ℕ) (left : List ℕ) : Type 0 where
   pub answer : r ≡ hostAnswer Plan number (length bytes)
   pub buffer : left ≡ outBy number bytes out
@@ -148,7 +149,7 @@ hostRecoverRefusal b out = hostRefusalBy true b (recoverRefusal (conditionIn b) 
 -- which is 256 plus 11, is answered exactly when, for a block that is accepted, no byte string at all does
 pub record HostRecovers (b out : List ℕ) (r : ℕ) (left : List ℕ) : Type 0 where
   pub gives : HostPromise (hostRecoverRefusal b out) getBack (PowersUp (conditionIn b)) out r left
-  pub exactly : Exactly (r ≡ 267) ((readRefusal b ≡ 0) × NoWayBack (conditionIn b))
+  pub exactly : (r ≡ 267) ↔ ((readRefusal b ≡ 0) × NoWayBack (conditionIn b))
 
 -- Power-up ----------------------------------------------------------------------------------------------------------------
 

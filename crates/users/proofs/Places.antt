@@ -195,8 +195,7 @@ unfolding defineOf withYoungest
 define-length u code held last r = put-length _ _ code held last ∙ left-fits u code r .1
 
 -- a code on which no user character sits stands in no place
-pub not-user : (u : Users) (code : ℕ) → u .count ≤ roomOf (u .bytes) → isUser u code ≡ false
-    → (i : ℕ) → i < u .count → getD (u .bytes) (i * 6) 0 ≡ code → ⊥
+pub not-user : (u : Users) (code : ℕ) → u .count ≤ roomOf (u .bytes) → isUser u code ≡ false → New code (u .count) (u .bytes)
 unfolding isUser
 not-user u code l e = found-misses (u .bytes) (u .count) l code (missing (foundOf u code) e)
   where
@@ -215,9 +214,9 @@ without-new u x (At k) h new =
 without-new u x Missing h new = new
 
 -- and no user character sits on it
-pub new-code : (u : Users) (x : ℕ) → New x (u .count) (u .bytes) → u .count ≤ roomOf (u .bytes) → isUser u x ≡ false
+pub new-not-user : (u : Users) (x : ℕ) → New x (u .count) (u .bytes) → u .count ≤ roomOf (u .bytes) → isUser u x ≡ false
 unfolding isUser
-new-code u x new l = go (foundOf u x) refl
+new-not-user u x new l = go (foundOf u x) refl
   where
     go : (f : Found) → foundOf u x ≡ f → isFound f ≡ false
     go Missing e = refl
@@ -248,7 +247,7 @@ module _ (u : Users) (code : ℕ) (held : List ℕ) (last : ℕ) (r : 0 < roomOf
       → isUser (defineOf u code held last) x ≡ false
   unfolding defineOf withYoungest
   other-user x other l e =
-      new-code (defineOf u code held last) x
+      new-not-user (defineOf u code held last) x
       (λ i m y. by-equal i (left .count)
       (λ z. other (sym y ∙ rw z (code-there (left .count) code (left .bytes) held last in-left)))
       (λ z. gone i (omega arith) (sym (code-else (left .count) code (left .bytes) held last in-left i (omega arith)) ∙ y)))

@@ -17,7 +17,7 @@ is-found-requires c κs = search needs
 makes-escape-requires : tie.Need-makes-escape-requires
 makes-escape-requires c κs = search needs
 
--- whichever of the two hold
+-- by which of the two hold, in whatever order they are asked
 returns : tie.Need-returns
 unfolding lost isUser
 returns c =
