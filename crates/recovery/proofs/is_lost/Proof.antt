@@ -1,7 +1,7 @@
 use borrow.Author.Needs.{needs}
 use Rattle.laws.proofs.Tests.{by-cases}
 use Rattle.users.specs.Users.{isUser}
-use Rattle.recovery.specs.Recovery.{lost}
+use Rattle.recovery.specs.Recovery.{makesEscape, lost}
 use Rattle.recovery.proofs.is_lost.Statement.{statement}
 use Rattle.recovery.proofs.is_lost.Tie as tie
 
@@ -21,11 +21,12 @@ makes-escape-requires c κs = search needs
 returns : tie.Need-returns
 unfolding lost isUser
 returns c =
-    let m = c .makes-escape in
-    let f = c .before .is-found in
-    rw (← c .before .before .find .ensures, ← f .ensures, ← m .ensures)
-    (by-cases (f .result) (λ x. by-cases (m .result) (λ y. search (x, y)) (λ y. search (x, y)))
-    (λ x. by-cases (m .result) (λ y. search (x, y)) (λ y. search (x, y))))
+    let a = c .before .before .before .before .before .before .args in
+    let made = isUser (a .c .users) 0x1B in
+    let making = makesEscape (a .c .pending) in
+    rw (c .makes-escape .ensures, c .before .is-found .ensures, c .before .before .find .ensures)
+    (by-cases made (λ x. by-cases making (λ y. search (x, y)) (λ y. search (x, y)))
+    (λ x. by-cases making (λ y. search (x, y)) (λ y. search (x, y))))
 
 pub is-lost-spec : {M : Type 1} → statement M
 is-lost-spec =
