@@ -12,6 +12,7 @@
    that says "in doubt" is put on the disk; it is taken off when all bytes are sent and the new
    block is saved. A start that finds the mark, or no state that fits, begins with a recovery: the
    module is brought to power-up, all settings are made again, and the whole picture is written.
+   Where no bytes can do that, as far as we know, the mark stays until we are told.
 
    A state from before the last boot does not fit: the module may have lost its power as well.
    What befalls the module alone the host must be told, by a file: touch STATE.lost when the module
@@ -34,7 +35,7 @@
 #include "sign.h"
 
 enum { TTY_ROOM = 256, BOOT_ROOM = 40, PATH_ROOM = 4096, MOST_PICTURES = 1000, LOOK_MS = 100 };
-enum { IN_DOUBT = 'D', CERTAIN = 'C' };
+enum { IN_DOUBT = 'D', PERHAPS_LOST = 'L', CERTAIN = 'C' };
 enum { MOST_US = 265 }; /* the longest that the module is busy with a byte, flickerless or not */
 
 /* What is kept of a sign, as it stands in STATE: bytes only, so there are no gaps. */
@@ -60,7 +61,8 @@ static const uint8_t settings[] = {
 
 static struct state sign; /* its mark is the one on the disk; 0: not known */
 static const char *doubt; /* why the module may not be in the block's condition; NULL: it is */
-static int perhaps_lost;  /* by the last block before a recovery nothing brings the module back */
+static int perhaps_lost;  /* by a block that we had nothing brings the module back, and nobody has
+                             told us since that it was switched off and on: the mark stays */
 static char path[PATH_ROOM], path_new[PATH_ROOM], path_lost[PATH_ROOM]; /* STATE and beside it */
 static int wire, directory; /* open files: the TTY, and the directory of STATE */
 static uint32_t j6;
@@ -104,7 +106,13 @@ static void save(uint8_t mark) {
 
 /* Puts the mark, where it is not on the disk yet. */
 static void put_mark(void) {
-    if (sign.mark != IN_DOUBT) save(IN_DOUBT);
+    uint8_t mark = perhaps_lost ? PERHAPS_LOST : IN_DOUBT;
+    if (sign.mark != mark) save(mark);
+}
+
+/* The block is that of a module that was just switched on. */
+static void to_power_up(void) {
+    if (sign_power_up(j6, sign.block, SIGN_BLOCK) != 0) END("there is no font %u", (unsigned)j6);
 }
 
 /* Has the block this user character, of whatever age? */
@@ -127,7 +135,7 @@ static int is_set(const struct state *s) {
 }
 
 /* Takes block and tally from STATE. Answers NULL, or why there is doubt: then they are taken where
-   they can be this wire's, the tally to go on from and the block for what it says of a lost module. */
+   they can be this wire's, the tally to go on from, the block for whether the module is lost. */
 static const char *load(void) {
     struct state s, power_up = sign;
     FILE *file = fopen(path, "rb");
@@ -137,6 +145,7 @@ static const char *load(void) {
     if (!whole) return "the state has a wrong length";
     if (memcmp(s.tty, sign.tty, TTY_ROOM) != 0) return "the state is of another TTY";
     memcpy(sign.block, s.block, SIGN_BLOCK);
+    perhaps_lost = s.mark == PERHAPS_LOST;
     memcpy(power_up.tally, s.tally, SIGN_TALLY);
     if (run(&power_up, settings, 0) == 0) memcpy(sign.tally, s.tally, SIGN_TALLY);
     if (s.mark != CERTAIN) return "the mark stands";
@@ -217,24 +226,22 @@ static void to_the_wire(const uint8_t *bytes, size_t n) {
     sign = copy;
 }
 
-/* Brings the module out of doubt: settings made, glass blank. The mark is put first of all, and
+/* Brings the module out of doubt: settings made, glass blank. The mark is saved first of all, and
    stands until the picture is saved: a host killed anywhere in between recovers again. STATE.lost
    goes when the mark is safe and before a byte is sent: if it comes again it is a new loss.
    The bytes are the same for every block, so they are asked for with that of power-up, which is the
-   module's afterwards, unless it is lost: 1Bh is a user character, or is being made one. (This station
-   makes none.) The module cannot be asked; but where the last block says so, the mark and that block
-   stay on the disk until somebody has switched the module off and on and told us. */
+   module's afterwards, unless it is lost: 1Bh is a user character, or is being made one. (This
+   station makes none.) The module cannot be asked; but the last block that we have may say so. */
 static void recover(void) {
     uint8_t back[SIGN_BACK];
-    SAY("recovering: %s", doubt);
-    put_mark();
-    int was_told = unlink(path_lost) == 0;
-    if (!was_told && errno != ENOENT) FAIL("remove", path_lost);
     uint32_t by_last = sign_recover(sign.block, SIGN_BLOCK, back, sizeof back);
-    perhaps_lost = !was_told && by_last == SIGN_REFUSED + SIGN_LOST;
+    perhaps_lost = (perhaps_lost || by_last == SIGN_REFUSED + SIGN_LOST) && !told();
+    SAY("recovering: %s", doubt);
     SAY("%s, switch it off and on, then touch %s",
-        perhaps_lost ? "by the last block the sign is lost" : "if the sign does not go blank now", path_lost);
-    if (sign_power_up(j6, sign.block, SIGN_BLOCK) != 0) END("there is no font %u", (unsigned)j6);
+        perhaps_lost ? "the sign may be lost" : "if the sign is wrong after this", path_lost);
+    to_power_up();
+    put_mark();
+    if (unlink(path_lost) != 0 && errno != ENOENT) FAIL("remove", path_lost);
     uint32_t n = sign_recover(sign.block, SIGN_BLOCK, back, sizeof back);
     if (n >= SIGN_REFUSED) END("there is no way back: %s", sign_refusal_text(n - SIGN_REFUSED));
     to_the_wire(back, n);
@@ -257,7 +264,8 @@ static int show(int i) {
         doubt = "the fault is the block's"; /* our own bytes do not lead there */
     }
     to_the_wire(plan, n);
-    if (sign.mark != CERTAIN && !perhaps_lost) save(CERTAIN); /* else nothing was sent */
+    if (sign.mark != CERTAIN) /* else nothing was sent */
+        save(perhaps_lost ? PERHAPS_LOST : CERTAIN);
     printf("shown %d: [", i + 1);
     for (int p = 0; p < SIGN_CELLS; p++)
         printf("%s%c", p == 20 ? "|" : "", pictures[i][p] <= 0x7E ? pictures[i][p] : '?');
@@ -266,7 +274,7 @@ static int show(int i) {
     return 1;
 }
 
-/* Lets the picture stay. Answers 1 as soon as we are told of a loss: then it is to be shown again. */
+/* Lets the picture stay. Answers 1 as soon as we are told of a loss: it is to be shown again. */
 static int hold(long ms) {
     for (; ms > 0 && !told(); ms -= LOOK_MS)
         wait_us(1000 * (unsigned long)(ms < LOOK_MS ? ms : LOOK_MS));
@@ -322,7 +330,7 @@ int main(int argc, char **argv) {
     int count = read_pictures(argv[3]);
     if (count == 0) END("%s has no picture", argv[3]);
     open_wire(); /* before the state is read: from here on no other station changes it */
-    if (sign_power_up(j6, sign.block, SIGN_BLOCK) != 0) END("there is no font %u", (unsigned)j6);
+    to_power_up();
     doubt = load();
     for (;;) {
         int shown = 0;

@@ -6,8 +6,8 @@
    The sign is a block of 512 bytes that the host keeps and lends. sign_power_up makes one, sign_run
    does to it what the module does with bytes that are sent to it, and sign_plan works out the
    fewest bytes that change what it shows into a wanted picture; sign_plan_fonts takes a font for
-   each cell as well, and sign_reel takes up to 64 pictures that come in turn. sign_recover gives the
-   bytes that bring a module back to power-up, whatever half a command it got, unless it is lost.
+   each cell as well, and sign_reel takes up to 64 pictures that come in turn. sign_recover gives
+   the bytes that bring a module back to power-up, whatever half a command it got, unless it is lost.
    sign_view, sign_dot, sign_underline and sign_lit say what the glass shows.
 
    Run first, send afterwards: bytes that sign_run refuses must not go to the wire, because the
@@ -195,11 +195,11 @@ uint32_t sign_reel(const uint8_t *block, size_t block_len,
    They are the same for every block, and serve whatever the module is in the middle of, unless it
    is lost. So where the block may not be what the module holds, as after a cable swap, make one by
    sign_power_up, ask for that one, run the bytes on it and send them (docs/HOST.md, Recovery).
-   Answers 8, and nothing else of out changes; or 256 plus 1, 2, 3, 11 or 10, in this order, and then
-   out did not change. 11 says that a module in the block's condition is lost, and is given exactly
-   when no bytes at all, however many, bring it to power-up: 1Bh is a user character, or user data
-   for 1Bh is awaited, so no ESC command can begin any more (those of one byte go on working). Switch
-   the module off and on then, and recover. */
+   Answers 8, and nothing else of out changes; or 256 plus 1, 2, 3, 11 or 10, in this order, and
+   then out did not change. 11 says that a module in the block's condition is lost, and is given
+   exactly when no bytes at all, however many, bring it to power-up: 1Bh is a user character, or user
+   data for 1Bh is awaited, so no ESC command can begin any more (those of one byte go on working).
+   Switch the module off and on then, and recover. */
 uint32_t sign_recover(const uint8_t *block, size_t block_len,
                       uint8_t *out, size_t out_len);
 
@@ -261,7 +261,7 @@ static inline const char *sign_refusal_text(uint32_t refusal) {
     case SIGN_USER_ON_MOVE:  return "a user character stands on a code that the plan needs";
     case SIGN_NO_CHARACTER:  return "a wanted code below 20h has no user character";
     case SIGN_NO_ROOM:       return "the output buffer is too small";
-    case SIGN_LOST:          return "no bytes bring the module back: switch it off and on, then recover";
+    case SIGN_LOST:          return "no bytes bring the module back: switch it off and on";
     default:                 return "not a refusal number";
     }
 }

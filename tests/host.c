@@ -344,7 +344,7 @@ static void recoveries(void) {
     check("recovery 2", recover(0) == SIGN_REFUSED + SIGN_DAMAGED);
     check("recovery 1", sign_recover(block, 511, out, 0) == SIGN_REFUSED + SIGN_WRONG_LENGTH);
     check("recovery: out stays", out[0] == 0xEE);
-    check("recovery: in words", strcmp(sign_refusal_text(SIGN_LOST), "no bytes bring the module back: switch it off and on, then recover") == 0);
+    check("recovery: in words", strcmp(sign_refusal_text(SIGN_LOST), "no bytes bring the module back: switch it off and on") == 0);
 }
 
 static void refusals(void) {

@@ -149,7 +149,7 @@ impl Bench {
     /// What the station says where its last block is that of a lost module.
     fn says_lost(&self) -> bool {
         let said = fs::read_to_string(format!("{}/said", self.directory)).unwrap_or_default();
-        said.contains("by the last block the sign is lost, switch it off and on, then touch")
+        said.contains("the sign may be lost, switch it off and on, then touch")
     }
 
     fn glass_is_wrong(&self) -> bool {
@@ -346,14 +346,21 @@ impl Bench {
             self.wire.put(module);
             for start in ["first", "second"] {
                 let _ = self.rest();
-                let right = self.says_lost() && self.glass_is_wrong() && self.is_marked();
+                let marked = self.saved().first() == Some(&b'L');
+                let right = self.says_lost() && self.glass_is_wrong() && marked;
                 self.expect(right, &format!("a lost module, {} bytes given, {} start", given, start));
             }
-            // told while it runs, or while it does not
-            let station = if given % 2 == 0 { Some(self.rest().0) } else { None };
+            // told while it runs, while it does not, and killed before it has saved
+            let running = if given % 3 == 0 { Some(self.rest().0) } else { None };
             self.wire.put(Condition::power_up(self.j6));
             self.touch_lost();
-            let wrong = match station {
+            if given % 3 == 1 {
+                let killed = self.start(REST);
+                self.wire.wait_for(5);
+                drop(killed);
+                self.wire.drain(&mut self.rng);
+            }
+            let wrong = match running {
                 Some(station) => {
                     let line = station.line();
                     self.wrong(&line)

@@ -69,8 +69,8 @@ answerBy refusal bytes = record { refusal = refusal; length = length (bytesBy re
 abbrev pub outBy : ℕ → List ℕ → List ℕ → List ℕ
 outBy refusal bytes out = atStart (bytesBy refusal bytes) out
 
--- What a planner promises of its answer r and of the output at exit: they are these for all inputs, by its refusal number and its
--- plan; and the bytes of an accepted plan, which stand at the output's start, are what it is for. (A recovery, too)
+-- What a planner, or a recovery, promises of its answer r and of the output at exit: they are these for all inputs, by its refusal
+-- number and its bytes; and the bytes of an accepted one, which stand at the output's start, are what it is for
 pub record Promise (number : ℕ) (bytes : List ℕ) (For : List ℕ → Type 0) (before after : List ℕ) (r : Planned) : Type 0 where
   pub answer : r ≡ answerBy number bytes
   pub output : after ≡ outBy number bytes before

@@ -12,7 +12,7 @@ use Rattle.users.specs.Users.{isUser, roomOf, limitOf, foundIn}
 use Rattle.users.proofs.Places.{defined-user}
 use Rattle.condition.specs.declared.Condition.{Condition}
 use Rattle.condition.specs.declared.Pending.{Pending}
-use Rattle.condition.specs.declared.Pending.the-variants.{Nothing, Escape, Position, Luminance, Speed, UserCode, UserData}
+use Rattle.condition.specs.declared.Pending.the-variants.{Escape, Position, Luminance, Speed, UserCode, UserData}
 use Rattle.condition.specs.Condition.{idle, wellFormed, powerUp}
 use Rattle.condition.specs.Bytes.{dataOf, stepOf}
 use Rattle.condition.proofs.Characters.{user-char}

@@ -5,7 +5,7 @@ use condition::Condition;
 use condition::Pending;
 use planner::Planned;
 
-// ESC: the byte that begins a command.
+// ESC: the byte that begins an ESC command.
 const ESCAPE: u8 = 0x1B;
 
 // The bytes are always eight.
@@ -26,7 +26,7 @@ fn makes_escape(p: Pending) -> bool
     }
 }
 
-// ESC is a user character, or is just being made one. Then no command can begin any more, so nothing helps.
+// ESC is a user character, or is just being made one. Then no ESC command can begin any more, so nothing helps.
 fn is_lost(c: Condition) -> bool
     ensures { λ r. ⌜ r ≡ lost c ⌝ }
 {

@@ -27,14 +27,14 @@ use Rattle.recovery.proofs.Answers.{exactly}
 use Rattle.sign.specs.Calls.{tallyAt, HostRun, HostPromise, hostRecoverRefusal, HostRecovers}
 use Rattle.sign.proofs.Hosted.{done, one-host-plan}
 
--- the refusal is 11 where the block is accepted and the call refuses so
+-- the refusal is 11 only where the block is accepted and the call refuses so
 eleven : (b : List ℕ) (n : ℕ) → hostRefusalBy true b n ≡ 11 → (readRefusal b ≡ 0) × (n ≡ 11)
 unfolding hostRefusalBy
 eleven b n e =
     by-cases (eqb (readRefusal b) 0) (λ t. (eqb-true (readRefusal b) 0 t, rw t at e))
     (λ t. let m : readRefusal b ≡ 11 = rw t at e in absurd (omega (arith, read-most b)))
 
--- and the number is 267 where the refusal is 11
+-- and the number is 267 only where the refusal is 11
 number-267 : (n bytes : ℕ) → bytes ≤ 8 → hostAnswer Plan n bytes ≡ 267 → n ≡ 11
 unfolding hostAnswer
 number-267 n bytes h e =

@@ -203,6 +203,15 @@ not-user u code l e = found-misses (u .bytes) (u .count) l code (missing (foundO
     missing Missing d = refl
     missing (At k) d = cc
 
+-- and on one that stands in no place none sits
+pub new-not-user : (u : Users) (x : ℕ) → New x (u .count) (u .bytes) → u .count ≤ roomOf (u .bytes) → isUser u x ≡ false
+unfolding isUser
+new-not-user u x new l = go (foundOf u x) refl
+  where
+    go : (f : Found) → foundOf u x ≡ f → isFound f ≡ false
+    go Missing e = refl
+    go (At k) e = let p = found-holds (u .bytes) (u .count) l x k e in absurd (new k (p .0) (p .1))
+
 -- On which codes user characters sit then -----------------------------------------------------------------------------------------
 
 -- a code that stands in no place stands in none of those that are left
@@ -212,15 +221,6 @@ unfolding without roomOf
 without-new u x (At k) h new =
     λ i m y. new (came k i) (omega arith) (sym (code-left (u .bytes) k (u .count - 1) (omega arith) (omega arith) i m) ∙ y)
 without-new u x Missing h new = new
-
--- and no user character sits on it
-pub new-not-user : (u : Users) (x : ℕ) → New x (u .count) (u .bytes) → u .count ≤ roomOf (u .bytes) → isUser u x ≡ false
-unfolding isUser
-new-not-user u x new l = go (foundOf u x) refl
-  where
-    go : (f : Found) → foundOf u x ≡ f → isFound f ≡ false
-    go Missing e = refl
-    go (At k) e = let p = found-holds (u .bytes) (u .count) l x k e in absurd (new k (p .0) (p .1))
 
 module _ (u : Users) (code : ℕ) (held : List ℕ) (last : ℕ) (r : 0 < roomOf (u .bytes)) where
   abbrev left : Users
