@@ -7,7 +7,9 @@ use borrow.Author.Tests.{eq-eqb, le-leb}
 use Rattle.row.specs.Row.{lineStart, scrolled, shifted}
 use Rattle.users.specs.Users.{roomOf, limitOf, foundIn, isUser, characterAt, putOf, removed, without, withYoungest, defineOf}
 use Rattle.dots.specs.Dots.{dotOf, litUpTo, litOf}
-use Rattle.condition.specs.Condition.{allUpTo, absent, usersGood, pendingGood, numbersGood, scrollGood, escapeGood, wellFormed}
+use Rattle.row.specs.Row.{allUpTo}
+use Rattle.users.specs.Users.{absent, placesFormed, heldFormed}
+use Rattle.condition.specs.Condition.{numbersGood, scrollGood, escapeGood, wellFormed}
 use Rattle.condition.specs.Condition.{powerUp}
 use Rattle.condition.specs.Bytes.{scrollOf, leftOf, rightOf, downOf, returnOf, clearOf, pushOf, writeOf, isChar, controlOf}
 use Rattle.condition.specs.Bytes.{escapeOf, positionOf, dataOf, stepAt, runOf}
@@ -38,7 +40,7 @@ pub bench : AllHold sheet
 unfolding powerUp runOf stepAt isChar isUser foundIn limitOf roomOf writeOf pushOf rightOf scrollOf scrolled shifted lineStart
     controlOf leftOf downOf returnOf clearOf escapeOf positionOf dataOf defineOf removed without withYoungest putOf
     totalOf quickAt writeBusy controlBusy escapeBusy rightScrolls downScrolls lineShifts showsOf showsCode dotsUpTo dotAnswer
-    litAnswer lookupOf wellFormed numbersGood scrollGood allUpTo usersGood absent pendingGood escapeGood characterAt dotOf litOf
+    litAnswer lookupOf wellFormed numbersGood scrollGood allUpTo placesFormed absent heldFormed escapeGood characterAt dotOf litOf
     litUpTo wrong left next down move near1 near2 dist leaves firstByte pathOf path flagged planOf plan clearWins eitherBy onMove
     lacks someLacks refusalBy planRefusal
 bench = (
@@ -76,14 +78,14 @@ bench = (
 -- and the cases for two fonts
 pub fonts-bench : AllHold fontsSheet
 unfolding powerUp runOf stepAt isChar isUser foundIn limitOf roomOf controlOf escapeOf positionOf wellFormed numbersGood scrollGood
-    allUpTo usersGood absent pendingGood escapeGood left next down move near1 near2 dist lineStart leaves firstByte pathOf path
+    allUpTo placesFormed absent heldFormed escapeGood left next down move near1 near2 dist lineStart leaves firstByte pathOf path
     flagged wrongFor switch fontsPlanOf fontsPlan clearWins eitherBy clearOf onMove onSwitch lacks someLacks refusalBy fontsRefusal
 fonts-bench = ((refl, refl), ((refl, refl), ((refl, refl), tt)))
 
 -- and the cases that may start from a clear
 pub clear-bench : AllHold clearSheet
 unfolding powerUp runOf stepAt isChar isUser foundIn limitOf roomOf writeOf rightOf controlOf escapeOf dataOf defineOf removed
-    without withYoungest putOf clearOf wellFormed numbersGood scrollGood allUpTo usersGood absent pendingGood escapeGood wrong left
+    without withYoungest putOf clearOf wellFormed numbersGood scrollGood allUpTo placesFormed absent heldFormed escapeGood wrong left
     next down move near1 near2 dist lineStart leaves firstByte pathOf path flagged planOf plan wrongFor switch fontsPlanOf fontsPlan
     clearWins eitherBy onMove onSwitch lacks someLacks refusalBy planRefusal fontsRefusal
 clear-bench = ((refl, refl), ((refl, refl), ((refl, refl), ((refl, refl), ((refl, refl), ((refl, refl), tt))))))
@@ -91,14 +93,14 @@ clear-bench = ((refl, refl), ((refl, refl), ((refl, refl), ((refl, refl), ((refl
 -- and the cases for the tally
 pub tally-bench : AllCount tallySheet
 unfolding powerUp stepAt isChar isUser foundIn limitOf roomOf writeOf rightOf controlOf downOf escapeOf totalOf quickAt writeBusy
-    controlBusy escapeBusy rightScrolls downScrolls lineShifts wellFormed numbersGood scrollGood allUpTo usersGood pendingGood
+    controlBusy escapeBusy rightScrolls downScrolls lineShifts wellFormed numbersGood scrollGood allUpTo placesFormed heldFormed
     escapeGood absent withinLimit tallied runRefusal runAnswer
 tally-bench = ((refl, refl), ((refl, refl), ((refl, refl), tt)))
 
 -- and the cases for reels
 pub reel-bench : AllHold reelSheet
 unfolding powerUp runOf stepAt isChar isUser foundIn limitOf roomOf writeOf rightOf controlOf leftOf downOf returnOf clearOf
-    wellFormed numbersGood scrollGood allUpTo usersGood absent pendingGood escapeGood wrong left next down move near1 near2 dist
+    wellFormed numbersGood scrollGood allUpTo placesFormed absent heldFormed escapeGood wrong left next down move near1 near2 dist
     lineStart leaves firstByte pathOf path flagged planOf plan clearWins eitherBy onMove lacks someLacks refusalBy planRefusal
     picturesOf plansOf firstRefused wholeRefusal stopOf
 reel-bench = ((refl, refl), (refl, (refl, (refl, ((refl, refl), tt)))))
@@ -106,7 +108,7 @@ reel-bench = ((refl, refl), (refl, (refl, (refl, ((refl, refl), tt)))))
 -- and the cases for getting a lost module back
 pub recovery-bench : AllHold recoverySheet
 unfolding powerUp runOf stepAt isChar isUser foundIn limitOf roomOf writeOf rightOf controlOf escapeOf dataOf defineOf removed
-    without withYoungest putOf wellFormed numbersGood scrollGood allUpTo usersGood absent pendingGood escapeGood getBack lost
+    without withYoungest putOf wellFormed numbersGood scrollGood allUpTo placesFormed absent heldFormed escapeGood getBack lost
     recoverRefusal
 recovery-bench =
     ((refl, refl, refl), ((refl, refl, refl), ((refl, refl, refl), ((refl, refl), ((refl, refl), (((refl, refl), refl), tt))))))

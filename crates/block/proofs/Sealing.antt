@@ -9,8 +9,8 @@ use lib.Seq.{drop-drop, drop-at, take-at, take-all, take-add, set-at, append-sno
 use borrow.Author.Tests.{lt-ltb, le-ltb}
 use Rattle.row.specs.Row.{laid}
 use Rattle.condition.specs.declared.Condition.{Condition}
-use Rattle.condition.specs.Condition.{allUpTo}
-use Rattle.condition.proofs.Ranges.{all-zero}
+use Rattle.row.specs.Row.{allUpTo}
+use Rattle.row.proofs.Ranges.{all-zero}
 use Rattle.layout.specs.Layout.{packedOf}
 use Rattle.block.specs.Block.{weigh, checkOf, bodyOf, sealOf, blockOf, putOver}
 use Rattle.block.specs.Tidy.{restZero}

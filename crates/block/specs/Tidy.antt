@@ -5,7 +5,7 @@ use mathlib.Core.List.{List}
 use mathlib.Core.Bool.{Bool, true, cond, _&&_}
 use lib.ListN.{getD, take, drop}
 use lib.Dec.{eqb, ltb, leb}
-use Rattle.condition.specs.Condition.{allUpTo}
+use Rattle.row.specs.Row.{allUpTo}
 
 -- a kind 0 to 6; its code and its bytes held are unused where it is not 6
 unfoldable pub kindGood : ℕ → ℕ → ℕ → Bool

@@ -44,7 +44,7 @@ fn is_rest_zero(block: &[u8]) -> bool
     requires { ⌜ 510 ≤ length (now block) ⌝ }
     ensures { λ r. ⌜ r ≡ restZero (now (block .entry)) ⌝ }
 {
-    condition::up_to(0, &block[layout::PACKED..CHECK])
+    row::up_to(0, &block[layout::PACKED..CHECK])
 }
 
 // How many bytes the check weighs: zeros behind the first 200 weigh nothing.
@@ -149,7 +149,7 @@ fn is_tidy(block: &[u8], zeros: bool) -> bool
             block[layout::CODE],
             block[layout::HOLDS],
         )
-        & condition::up_to(0, &block[layout::UNUSED..layout::CODES])
+        & row::up_to(0, &block[layout::UNUSED..layout::CODES])
         & zeros
 }
 

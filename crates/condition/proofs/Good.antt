@@ -8,13 +8,14 @@ use native.Mathlib.Omega.{arith}
 use lib.ListN.{set, length, length-set}
 use borrow.Author.Tests.{leb-true, ltb-true, le-leb, lt-ltb}
 use Rattle.laws.proofs.Tests.{clash, both, by-test}
+use Rattle.row.specs.Row.{allUpTo}
 use Rattle.row.proofs.Laws.{line-start-most, scrolled-40, shifted-40}
-use Rattle.users.specs.Users.{roomOf}
+use Rattle.users.specs.Users.{roomOf, placesFormed, heldFormed}
 use Rattle.users.proofs.Places.{room-for, define-length}
 use Rattle.condition.specs.declared.Condition.{Condition}
 use Rattle.condition.specs.declared.Pending.{Pending}
 use Rattle.condition.specs.declared.Pending.the-variants.{Nothing, Escape, Position, Luminance, Speed, UserCode, UserData}
-use Rattle.condition.specs.Condition.{idle, column, allUpTo, usersGood, pendingGood, numbersGood, scrollGood, escapeGood}
+use Rattle.condition.specs.Condition.{idle, heldOf, column, numbersGood, scrollGood, escapeGood}
 use Rattle.condition.specs.Condition.{wellFormed, powerUp}
 use Rattle.condition.specs.Set.{withCell}
 use Rattle.condition.specs.Bytes.{scrollOf, leftOf, rightOf, downOf, returnOf, clearOf, pushOf, writeOf, positionOf}
@@ -42,8 +43,8 @@ pub record Good (c : Condition) : Type 0 where
   pub count-16 : c .users .count ≤ 16
   pub scroll : scrollGood c ≡ true
   pub fonts-1 : allUpTo 1 (c .fonts) ≡ true
-  pub users-good : usersGood (c .users .count) (c .users .bytes) ≡ true
-  pub pending-good : pendingGood (c .pending) (c .held) ≡ true
+  pub users-good : placesFormed 16 (c .users .count) (c .users .bytes) ≡ true
+  pub held-good : heldFormed (heldOf (c .pending)) (c .held) ≡ true
   pub escape : escapeGood c ≡ true
 
 pub good : (c : Condition) → wellFormed c ≡ true → Good c
@@ -52,8 +53,8 @@ good c e =
     let n = numbersGood c in
     let s = scrollGood c in
     let f = allUpTo 1 (c .fonts) in
-    let u = usersGood (c .users .count) (c .users .bytes) in
-    let p = pendingGood (c .pending) (c .held) in
+    let u = placesFormed 16 (c .users .count) (c .users .bytes) in
+    let p = heldFormed (heldOf (c .pending)) (c .held) in
     let p₅ = both (n && s && f && u && p) (escapeGood c) e in
     let p₄ = both (n && s && f && u) p (p₅ .0) in
     let p₃ = both (n && s && f) u (p₄ .0) in
@@ -76,7 +77,7 @@ good c e =
       scroll = p₁ .1;
       fonts-1 = p₂ .1;
       users-good = p₃ .1;
-      pending-good = p₄ .1;
+      held-good = p₄ .1;
       escape = p₅ .1;
     }
 
@@ -94,7 +95,7 @@ formed c g =
       g .scroll,
       g .fonts-1,
       g .users-good,
-      g .pending-good,
+      g .held-good,
       g .escape,
     )
 

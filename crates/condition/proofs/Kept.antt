@@ -1,35 +1,34 @@
 -- Every command keeps a condition well formed.
 use mathlib.Core.Path.{_≡_, refl}
 use mathlib.Core.Bool.{Bool, true, false, cond, _&&_, _||_, not, and-false, or-true}
-use mathlib.Core.List.{List, _∷_, _++_}
+use mathlib.Core.List.{List}
 use Prim.Native.Nat.{ℕ, zero, suc, _<_, _≤_, _+_, _-_, _/_, _%_}
 use native.Mathlib.Omega.{arith}
 use lib.Dec.{leb, ltb, eqb}
-use lib.ListN.{getD, set, take, drop, replicate}
-use lib.Seq.{drop-set-lt, drop-drop}
-use borrow.Author.Tests.{ltb-true, leb-true, le-leb, ne-eqb}
-use Rattle.laws.proofs.Tests.{both, neither, by-test}
-use Rattle.row.specs.Row.{lineStart, scrolled, shifted}
-use Rattle.users.specs.Users.{isUser}
+use lib.ListN.{getD, set, replicate}
+use borrow.Author.Tests.{ltb-true, leb-true, ne-eqb}
+use Rattle.laws.proofs.Tests.{neither, by-test}
+use Rattle.row.specs.Row.{lineStart, scrolled, shifted, allUpTo}
+use Rattle.row.proofs.Ranges.{up-to-set, up-to-replicate, scrolled-up-to, shifted-up-to}
+use Rattle.users.specs.Users.{roomOf, isUser, absent, placesFormed, heldFormed}
 use Rattle.users.proofs.Places.{not-user, new-not-user, define-most}
+use Rattle.users.proofs.Formed.{define-formed, absent-at, at-absent, next-held}
 use Rattle.condition.specs.declared.Condition.{Condition}
 use Rattle.condition.specs.declared.Pending.{Pending}
 use Rattle.condition.specs.declared.Pending.the-variants.{Nothing, Escape, UserData}
-use Rattle.condition.specs.Condition.{column, idle, heldOf, allUpTo, absent, usersGood, pendingGood, numbersGood}
+use Rattle.condition.specs.Condition.{column, idle, heldOf, numbersGood}
 use Rattle.condition.specs.Condition.{scrollGood, escapeGood, wellFormed, powerUp, powerUpAnswer}
 use Rattle.condition.specs.Set.{withCells, withCell, withCursor, withMode, withScrolling, withShown, withFont, withEuro}
 use Rattle.condition.specs.Set.{withLuminance, withSpeed, withFlickerless, withPending, goTo}
 use Rattle.condition.specs.Bytes.{scrollOf, leftOf, rightOf, downOf, returnOf, clearOf, pushOf, writeOf, isChar}
 use Rattle.condition.specs.Bytes.{positionOf, dataOf, stepOf, runOf}
-use Rattle.condition.proofs.Ranges.{up-to-set, up-to-append, up-to-cons, up-to-take, up-to-drop, up-to-replicate}
-use Rattle.condition.proofs.Users.{define-good, absent-at, at-absent}
 use Rattle.condition.proofs.Each.{Commands, step-by, run-by}
 use Rattle.condition.proofs.Good.{Good, good, formed, Sized, room-16, step-sized}
 
 -- Power-up for font 0 or 1 is well formed ----------------------------------------------------------------------------------
 
 pub power-up-good : (f : ℕ) → f ≤ 1 → wellFormed (powerUp f) ≡ true
-unfolding wellFormed powerUp numbersGood scrollGood allUpTo usersGood pendingGood escapeGood
+unfolding wellFormed powerUp numbersGood scrollGood allUpTo placesFormed heldFormed escapeGood
 power-up-good zero h = refl
 power-up-good (suc zero) h = refl
 power-up-good (suc (suc f)) h = absurd (omega arith)
@@ -42,20 +41,6 @@ powered f h = rw h
 pub unpowered : (f : ℕ) → leb f 1 ≡ false → powerUpAnswer f ≡ record { refusal = 3; condition = powerUp 0 }
 unfolding powerUpAnswer
 unpowered f h = rw h
-
--- Fonts that are moved stay 0 or 1 -----------------------------------------------------------------------------------------
-
-scrolled-1 : (v : ℕ) (a : List ℕ) → v ≤ 1 → allUpTo 1 a ≡ true → allUpTo 1 (scrolled v a) ≡ true
-unfolding scrolled
-scrolled-1 v a h e = up-to-append 1 (drop 20 a) (replicate 20 v) (up-to-drop 1 20 a e) (up-to-replicate 1 20 v h)
-
-shifted-1 : (start v : ℕ) (a : List ℕ) → v ≤ 1 → allUpTo 1 a ≡ true → allUpTo 1 (shifted start v a) ≡ true
-unfolding shifted
-shifted-1 start v a h e =
-    up-to-append 1 (take start a ++ take 19 (drop (start + 1) a)) (v ∷ drop (start + 20) a)
-    (up-to-append 1 (take start a) (take 19 (drop (start + 1) a)) (up-to-take 1 start a e)
-    (up-to-take 1 19 (drop (start + 1) a) (up-to-drop 1 (start + 1) a e)))
-    (up-to-cons 1 v (drop (start + 20) a) h (up-to-drop 1 (start + 20) a e))
 
 -- One field changed --------------------------------------------------------------------------------------------------------
 
@@ -94,7 +79,7 @@ module _ (c : Condition) (g : Good c) where
   unfolding scrollOf
   scroll-kept =
       cells-kept (scrolled 0x20 (c .codes)) (scrolled (c .font) (c .fonts))
-      (scrolled-1 (c .font) (c .fonts) (g .font-1) (g .fonts-1))
+      (scrolled-up-to 1 (c .font) (c .fonts) (g .font-1) (g .fonts-1))
 
   pub clear-kept : Good (clearOf c)
   unfolding clearOf scrollGood escapeGood
@@ -103,9 +88,9 @@ module _ (c : Condition) (g : Good c) where
   -- another command is half received, or none, and nothing is held
   pub await-kept : (p : Pending) → heldOf (c .pending) ≡ 0 → heldOf p ≡ 0
       → absent 0x1B (c .users .count) (c .users .bytes) ≡ true → Good (withPending c p)
-  unfolding scrollGood escapeGood pendingGood
+  unfolding scrollGood escapeGood
   await-kept p e z a =
-      let h : (leb (heldOf p) 4 && allUpTo 0 (drop (heldOf p) (c .held))) ≡ true = rw z (rw e at (g .pending-good)) in
+      let h : heldFormed (heldOf p) (c .held) ≡ true = rw z (rw e at (g .held-good)) in
       let k : (idle p || absent 0x1B (c .users .count) (c .users .bytes)) ≡ true = rw a (or-true (idle p)) in
       search
 
@@ -181,7 +166,7 @@ unfolding pushOf scrollGood escapeGood
 push-kept c b g e =
     by-test Good (c .scrolling)
     (λ _. cells-kept c g (shifted (lineStart (c .cursor)) b (c .codes)) (shifted (lineStart (c .cursor)) (c .font) (c .fonts))
-    (shifted-1 (lineStart (c .cursor)) (c .font) (c .fonts) (g .font-1) (g .fonts-1)))
+    (shifted-up-to 1 (c .font) (c .fonts) (g .font-1) (g .fonts-1) (lineStart (c .cursor))))
     (λ _. let k = cell-kept c g b in search)
 
 pub write-kept : (c : Condition) (b : ℕ) → Good c → Good (writeOf c b)
@@ -190,24 +175,19 @@ write-kept c b g =
     by-test Good (eqb (c .mode) 3 && eqb (column c) 19) (λ e. push-kept c b g e)
     (λ _. right-kept (withCell c (c .cursor) b) (cell-kept c g b))
 
--- the held bytes from the next one up are 0
-next-held : (h : List ℕ) (n d : ℕ) → allUpTo 0 (drop n h) ≡ true → allUpTo 0 (drop (n + 1) (set h n d)) ≡ true
-next-held h n d e = rw (drop-set-lt (n + 1) h n d (omega arith), ← drop-drop 1 n h) (up-to-drop 0 1 (drop n h) e)
-
 pub data-kept : (c : Condition) (code n d : ℕ) → Sized c → Good c → c .pending ≡ UserData code n → Good (dataOf c code n d)
-unfolding dataOf scrollGood escapeGood pendingGood allUpTo
+unfolding dataOf scrollGood escapeGood heldFormed allUpTo
 data-kept c code n d s g e =
     by-test Good (ltb n 4)
     (λ t.
-    let p = both (leb n 4) (allUpTo 0 (drop n (c .held))) (rw e at (g .pending-good)) in
-    let k : (leb (n + 1) 4 && allUpTo 0 (drop (n + 1) (set (c .held) n d))) ≡ true =
-    rw (le-leb (n + 1) 4 (omega (arith, ltb-true n 4 t))) (next-held (c .held) n d (p .1)) in
+    let k = next-held (c .held) n d (ltb-true n 4 t) (rw e at (g .held-good)) in
     let a = no-escape c g (rw e) in
     search)
     (λ _.
     let r = room-16 c s in
     let m = rw r at (define-most (c .users) code (c .held) (d % 16) (omega arith)) in
-    let u = define-good (c .users) code (c .held) (d % 16) (s .users-96) (g .count-16) (omega arith) (g .users-good) in
+    let l : c .users .count ≤ roomOf (c .users .bytes) = omega (arith, g .count-16) in
+    let u = define-formed 16 (c .users) code (c .held) (d % 16) (omega arith) l (omega arith) (g .users-good) in
     search)
 
 -- 1Bh is no character, so it is no user code

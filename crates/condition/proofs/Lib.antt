@@ -3,8 +3,6 @@ pub mod Characters
 pub mod Rows
 pub mod Each
 pub mod Aside
-pub mod Ranges
-pub mod Users
 pub mod Good
 pub mod Kept
 pub mod Pieces

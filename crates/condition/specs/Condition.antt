@@ -1,10 +1,11 @@
 -- The condition (document 01, The condition): positions, power-up, and what is well formed.
-use Prim.Native.Nat.{ℕ, zero, suc, _%_}
-use mathlib.Core.List.{List, [], _∷_}
+use Prim.Native.Nat.{ℕ, _%_}
 use mathlib.Core.Bool.{Bool, true, false, cond, not, _&&_, _||_}
-use lib.ListN.{getD, drop, replicate}
+use lib.ListN.{replicate}
 use lib.Dec.{eqb, ltb, leb}
+use Rattle.row.specs.Row.{allUpTo}
 use Rattle.users.specs.declared.Users.{Users}
+use Rattle.users.specs.Users.{absent, placesFormed, heldFormed}
 use Rattle.condition.specs.declared.Condition.{Condition}
 use Rattle.condition.specs.declared.Outcome.{Outcome}
 use Rattle.condition.specs.declared.Pending.{Pending}
@@ -41,25 +42,6 @@ heldOf (UserData code n) = n
 
 -- Well formed: every value in range and every unused place 0 -----------------------------------------------------------
 
--- every element is at most n
-unfoldable pub allUpTo : ℕ → List ℕ → Bool
-allUpTo n [] = true
-allUpTo n (x ∷ xs) = leb x n && allUpTo n xs
-
--- the code x stands in none of the first n places of six bytes
-unfoldable pub absent : ℕ → ℕ → List ℕ → Bool
-absent x zero l = true
-absent x (suc n) l = not (eqb (getD l 0 0) x) && absent x n (drop 6 l)
-
--- user codes distinct, each fifth byte below 16, over the first n places; the other places are 0
-unfoldable pub usersGood : ℕ → List ℕ → Bool
-usersGood zero l = allUpTo 0 l
-usersGood (suc n) l = ltb (getD l 5 0) 16 && (absent (getD l 0 0) n (drop 6 l) && usersGood n (drop 6 l))
-
--- 0 to 4 bytes held, and the held bytes from the count up are 0
-unfoldable pub pendingGood : Pending → List ℕ → Bool
-pendingGood p h = leb (heldOf p) 4 && allUpTo 0 (drop (heldOf p) h)
-
 -- cursor 0 to 39, mode 1 to 3, selected font and default font 0 or 1, luminance 0 to 3, up to 16 user characters
 unfoldable pub numbersGood : Condition → Bool
 numbersGood c =
@@ -74,10 +56,11 @@ scrollGood c = not (c .scrolling) || eqb (c .mode) 3 && eqb (column c) 19
 unfoldable pub escapeGood : Condition → Bool
 escapeGood c = idle (c .pending) || absent 0x1B (c .users .count) (c .users .bytes)
 
+-- fonts 0 or 1; user codes distinct, each fifth byte below 16, the other places 0; 0 to 4 bytes held, the others 0
 unfoldable pub wellFormed : Condition → Bool
 wellFormed c =
-    numbersGood c && scrollGood c && allUpTo 1 (c .fonts) && usersGood (c .users .count) (c .users .bytes)
-    && pendingGood (c .pending) (c .held) && escapeGood c
+    numbersGood c && scrollGood c && allUpTo 1 (c .fonts) && placesFormed 16 (c .users .count) (c .users .bytes)
+    && heldFormed (heldOf (c .pending)) (c .held) && escapeGood c
 
 -- Power-up ---------------------------------------------------------------------------------------------------------------
 

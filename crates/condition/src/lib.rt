@@ -1,8 +1,6 @@
 // A module's condition: what it holds, when it is well formed, and power-up.
 ghost use mathlib.Core.Path.{_≡_};
-ghost use Prim.Native.Nat.{_*_, _≤_};
-ghost use lib.ListN.{length};
-ghost use Rattle.condition.specs.Condition.{idle, heldOf, allUpTo, absent, usersGood, pendingGood, numbersGood};
+ghost use Rattle.condition.specs.Condition.{idle, heldOf, numbersGood};
 ghost use Rattle.condition.specs.Condition.{scrollGood, wellFormed, powerUp, powerUpAnswer};
 ghost use Rattle.condition.specs.Rows.{rowsGood};
 use users::Users;
@@ -53,59 +51,6 @@ pub struct Figures {
     pub worst: u16,
 }
 
-// Every byte of s is at most n. All are looked at: a loop that does not leave early is compiled to take many at a time.
-pub fn up_to(n: u8, s: &[u8]) -> bool
-    ensures { λ r. ⌜ r ≡ allUpTo n (now (s .entry)) ⌝ }
-{
-    let mut most: u8 = 0;
-    let mut i = 0;
-    while i < s.len() {
-        if most < s[i] {
-            most = s[i];
-        }
-        i += 1;
-    }
-    most <= n
-}
-
-// The code x stands in none of the first n places of s.
-fn is_absent(x: u8, n: usize, s: &[u8]) -> bool
-    requires { ⌜ 6 * n ≤ length (now s) ⌝ }
-    ensures { λ r. ⌜ r ≡ absent x n (now (s .entry)) ⌝ }
-{
-    let mut left = n;
-    let mut at = 0;
-    while 0 < left {
-        if s[at] == x {
-            return false;
-        }
-        at += Users::PLACE;
-        left -= 1;
-    }
-    true
-}
-
-fn users_good(n: usize, s: &[u8]) -> bool
-    requires { ⌜ 6 * n ≤ length (now s) ⌝ }
-    ensures { λ r. ⌜ r ≡ usersGood n (now (s .entry)) ⌝ }
-{
-    let mut left = n;
-    let mut at = 0;
-    while 0 < left {
-        let x = s[at];
-        let d = s[at + 5];
-        left -= 1;
-        at += Users::PLACE;
-        if 16 <= d {
-            return false;
-        }
-        if !is_absent(x, left, &s[at..]) {
-            return false;
-        }
-    }
-    up_to(0, &s[at..])
-}
-
 // No command is half received.
 pub fn is_idle(p: Pending) -> bool
     ensures { λ r. ⌜ r ≡ idle p ⌝ }
@@ -135,17 +80,6 @@ fn held_of(p: Pending) -> u8
     }
 }
 
-fn pending_good(p: Pending, h: &[u8]) -> bool
-    requires { ⌜ length (now h) ≡ 4 ⌝ }
-    ensures { λ r. ⌜ r ≡ pendingGood p (now (h .entry)) ⌝ }
-{
-    let n = held_of(p) as usize;
-    if Condition::HELD < n {
-        return false;
-    }
-    up_to(0, &h[n..])
-}
-
 // The rows of a condition are as they should be: the cells' fonts, the user characters, and what is held of one that is being
 // received. They may stand in a condition or in bytes; more than 16 user characters, or a row of another length, never are.
 pub fn rows_good(fonts: &[u8], count: u8, users: &[u8], pending: Pending, held: &[u8]) -> bool
@@ -163,11 +97,10 @@ pub fn rows_good(fonts: &[u8], count: u8, users: &[u8], pending: Pending, held: 
     if Condition::MOST_USERS < count {
         return false;
     }
-    let n = count as usize;
-    up_to(Condition::LAST_FONT, fonts)
-        & users_good(n, users)
-        & pending_good(pending, held)
-        & (is_idle(pending) | is_absent(0x1B, n, users))
+    row::up_to(Condition::LAST_FONT, fonts)
+        & users::are_formed(users, count, Condition::FIFTH)
+        & users::held_formed(held_of(pending), held)
+        & (is_idle(pending) | !users::is_found(users::find(users, count, 0x1B)))
 }
 
 fn numbers_good(c: Condition) -> bool
@@ -210,6 +143,9 @@ impl Condition {
     pub const FULL_LUMINANCE: u8 = 3;
 
     pub const MOST_USERS: u8 = Users::MOST;
+
+    // A user character's fifth byte is below this: the underline and three dots.
+    pub const FIFTH: u8 = 16;
 
     // Power-up for a font, whatever its number.
     fn powered(font: u8) -> Condition

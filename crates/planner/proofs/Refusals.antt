@@ -12,13 +12,14 @@ use Rattle.laws.proofs.Tests.{by-cases, clash, both, neither, passed}
 use Rattle.users.specs.declared.Users.{Users}
 use Rattle.users.specs.Users.{isUser}
 use Rattle.condition.specs.declared.Condition.{Condition}
-use Rattle.condition.specs.Condition.{idle, wellFormed, allUpTo}
+use Rattle.row.specs.Row.{allUpTo}
+use Rattle.condition.specs.Condition.{idle, wellFormed}
 use Rattle.condition.specs.Bytes.{isChar, runOf}
 use Rattle.condition.specs.Steps.{eitherStart}
 use Rattle.condition.proofs.Characters.{plain-char, user-char, no-char}
 use Rattle.condition.proofs.Good.{good, formed, Sized}
 use Rattle.condition.proofs.Kept.{cells-kept, cursor-kept}
-use Rattle.condition.proofs.Ranges.{up-to-at, up-to-replicate}
+use Rattle.row.proofs.Ranges.{up-to-at, up-to-replicate}
 use Rattle.moves.specs.Moves.{any, moves}
 use Rattle.moves.proofs.Moving.{each-move}
 use Rattle.moves.proofs.Interpreter.{ready}

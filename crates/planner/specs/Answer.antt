@@ -8,7 +8,8 @@ use lib.Dec.{eqb, ltb, leb}
 use Rattle.users.specs.declared.Users.{Users}
 use Rattle.users.specs.Users.{isUser}
 use Rattle.condition.specs.declared.Condition.{Condition}
-use Rattle.condition.specs.Condition.{idle, wellFormed, allUpTo}
+use Rattle.row.specs.Row.{allUpTo}
+use Rattle.condition.specs.Condition.{idle, wellFormed}
 use Rattle.condition.specs.Steps.{eitherStart}
 use Rattle.planner.specs.declared.Planned.{Planned}
 use Rattle.planner.specs.Plan.{atStart, Delivers}

@@ -140,7 +140,7 @@ pub(crate) fn of_fonts(c: Condition, wanted: &[u8], fonts: &[u8], asked: u32, ro
     let bytes = u.bytes;
     let moving = on_move(&bytes, u.count);
     let switching = on_switch(&bytes, u.count);
-    let ranged = condition::up_to(Condition::LAST_FONT, fonts);
+    let ranged = row::up_to(Condition::LAST_FONT, fonts);
     refusal_by(
         (wanted.len() == Condition::CELLS) & (fonts.len() == Condition::CELLS),
         (asked <= LAST) & ranged,

@@ -12,7 +12,8 @@ use borrow.Author.Tests.{ltb-false, not-false}
 use Rattle.laws.proofs.Tests.{by-cases, passed}
 use Rattle.row.specs.Row.{laid}
 use Rattle.condition.specs.declared.Condition.{Condition}
-use Rattle.condition.specs.Condition.{allUpTo, wellFormed}
+use Rattle.row.specs.Row.{allUpTo}
+use Rattle.condition.specs.Condition.{wellFormed}
 use Rattle.condition.proofs.Good.{Sized}
 use Rattle.planner.specs.declared.Planned.{Planned}
 use Rattle.planner.specs.Answer.{Promise}

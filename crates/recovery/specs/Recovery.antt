@@ -10,7 +10,8 @@ use Rattle.users.specs.Users.{isUser}
 use Rattle.condition.specs.declared.Condition.{Condition}
 use Rattle.condition.specs.declared.Pending.{Pending}
 use Rattle.condition.specs.declared.Pending.the-variants.{Nothing, Escape, Position, Luminance, Speed, UserCode, UserData}
-use Rattle.condition.specs.Condition.{allUpTo, wellFormed, powerUp}
+use Rattle.row.specs.Row.{allUpTo}
+use Rattle.condition.specs.Condition.{wellFormed, powerUp}
 use Rattle.condition.specs.Bytes.{runOf}
 use Rattle.planner.specs.declared.Planned.{Planned}
 use Rattle.planner.specs.Answer.{Promise}

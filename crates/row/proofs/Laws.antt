@@ -8,11 +8,12 @@ use native.Mathlib.Numerals.{add-one}
 use lib.ListN.{length, getD, take, drop, set, replicate, length-append, length-take, length-drop, length-replicate}
 use lib.ListN.{replicate-append-replicate, drop-of-length-le}
 use lib.Seq.{paste, paste-suc, drop-paste, getD-drop, take-all, drop-cons, set-at, length-paste-head, take-suc-set, take-paste}
-use lib.Seq.{take-suc, take-nil, drop-nil, drop-length, append-snoc, length-take-le}
+use lib.Seq.{take-suc, take-nil, drop-nil, drop-drop, drop-length, append-snoc, length-take-le}
 use lib.Dec.{leb, ltb}
 use borrow.Author.Tests.{leb-true, leb-false, eq-eqb}
 use Rattle.laws.proofs.Tests.{by-cases, by-test}
-use Rattle.row.specs.Row.{lineStart, scrolled, shifted, onPicture, advanced, laid}
+use Rattle.laws.proofs.Lists.{part-length}
+use Rattle.row.specs.Row.{lineStart, scrolled, shifted, clearedLine, onPicture, advanced, laid}
 
 -- a turn of a loop that pastes
 pub paste-turn : (d s out : List ℕ) (to from i : ℕ) → out ≡ paste d to (drop from s) i → to + i < length d → from + i < length s
@@ -83,6 +84,14 @@ shift-law a start v h k =
     let m : length head ≡ start + 19 = length-paste-head a start (drop (start + 1) a) 19 (omega arith) n in
     rw (drop-cons a (start + 19) 0 l, e) (set-at head _ _ v (start + 19) m)
 
+pub clear-line-law : (a x : List ℕ) (start v : ℕ) → length a ≡ 40 → start ≤ 20
+    → x ≡ replicate (length (take (start + 20 - start) (drop start a))) v
+    → take start a ++ (x ++ drop (start + 20 - start) (drop start a)) ≡ clearedLine start v a
+unfolding clearedLine
+clear-line-law a x start v h k e =
+    let n : start + 20 - start ≡ 20 = omega arith in
+    rw (e, n, part-length start 20 a (omega arith), drop-drop 20 start a)
+
 pub advance-law : (a : List ℕ) (by n : ℕ) → by ≤ length a → n ≡ length a - by → paste a 0 (drop (0 + by) a) n ≡ advanced by a
 unfolding advanced
 advance-law a by n h e =
@@ -150,6 +159,10 @@ scrolled-40 v a h = simp (length-append, length-drop, length-replicate) (omega a
 pub shifted-40 : (start v : ℕ) (a : List ℕ) → start ≤ 20 → length a ≡ 40 → length (shifted start v a) ≡ 40
 unfolding shifted
 shifted-40 start v a l h = simp (length-append, length-take, length-drop) (omega arith)
+
+pub cleared-40 : (start v : ℕ) (a : List ℕ) → start ≤ 20 → length a ≡ 40 → length (clearedLine start v a) ≡ 40
+unfolding clearedLine
+cleared-40 start v a l h = simp (length-append, length-take, length-drop) (omega arith)
 
 pub advanced-length : (by : ℕ) (a : List ℕ) → by ≤ length a → length (advanced by a) ≡ length a
 unfolding advanced

@@ -1,9 +1,9 @@
 -- Pictures of two lines of 20 places (document 01, The condition), and what moves whole rows.
 use Prim.Native.Nat.{ℕ, _+_, _-_}
-use mathlib.Core.List.{List, _∷_, _++_}
-use mathlib.Core.Bool.{cond}
+use mathlib.Core.List.{List, [], _∷_, _++_}
+use mathlib.Core.Bool.{Bool, true, cond, _&&_}
 use lib.ListN.{length, take, drop, replicate}
-use lib.Dec.{eqb, ltb}
+use lib.Dec.{eqb, ltb, leb}
 
 -- column 0 of the line of a place
 unfoldable pub lineStart : ℕ → ℕ
@@ -17,6 +17,10 @@ scrolled v a = drop 20 a ++ replicate 20 v
 unfoldable pub shifted : ℕ → ℕ → List ℕ → List ℕ
 shifted start v a = take start a ++ take 19 (drop (start + 1) a) ++ v ∷ drop (start + 20) a
 
+-- every place of a line is v
+unfoldable pub clearedLine : ℕ → ℕ → List ℕ → List ℕ
+clearedLine start v a = take start a ++ (replicate 20 v ++ drop (start + 20) a)
+
 -- a picture has 40 places; anything else stays as it is
 unfoldable pub onPicture : (List ℕ → List ℕ) → List ℕ → List ℕ
 onPicture f a = cond (eqb (length a) 40) (f a) a
@@ -28,3 +32,8 @@ advanced by a = drop by a ++ drop (length a - by) a
 -- s over the start of d, as far as there is room
 unfoldable pub laid : List ℕ → List ℕ → List ℕ
 laid s d = take (length d) s ++ drop (length s) d
+
+-- every element is at most n
+unfoldable pub allUpTo : ℕ → List ℕ → Bool
+allUpTo n [] = true
+allUpTo n (x ∷ xs) = leb x n && allUpTo n xs

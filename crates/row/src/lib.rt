@@ -1,11 +1,12 @@
 // A picture is two lines of 20 cells, 40 places in one row: 0 to 19 the top line, 20 to 39 the bottom one.
-// What moves whole rows stands here once, for codes, for fonts and for the bytes of user characters.
+// What moves whole rows stands here once, for codes, for fonts or marks, and for the bytes of user characters: for both devices.
 ghost use mathlib.Core.Path.{_≡_};
 ghost use Prim.Native.Nat.{_+_, _-_, _≤_, min};
 ghost use lib.ListN.{length, take, drop, set, replicate};
 ghost use mathlib.Core.List.{_++_};
 ghost use lib.Seq.{paste};
-ghost use Rattle.row.specs.Row.{lineStart, scrolled, shifted, onPicture, advanced, laid};
+ghost use Rattle.row.specs.Row.{lineStart, scrolled, shifted, clearedLine, onPicture, advanced, laid};
+ghost use Rattle.row.specs.Row.{allUpTo};
 
 // The n places from `to` on take what stands `by` places further on.
 fn pull(cells: &mut [u8], to: usize, by: usize, n: usize)
@@ -83,6 +84,17 @@ pub fn shift(cells: &mut [u8], at: u8, v: u8)
     cells[start + 19] = v;
 }
 
+// Every place of the line of the place `at` is v. What is not a picture stays as it is.
+pub fn clear_line(cells: &mut [u8], at: u8, v: u8)
+    ensures { λ _. ⌜ now (cells .exit) ≡ onPicture (clearedLine (lineStart at) v) (now (cells .entry)) ⌝ }
+{
+    if cells.len() != 40 {
+        return;
+    }
+    let start = line_start(at);
+    clear(&mut cells[start..start + 20], v);
+}
+
 // Each place takes what stands `by` places further on; the last `by` places keep what they hold.
 pub fn advance(bytes: &mut [u8], by: usize)
     ensures { λ _. ⌜ now (bytes .exit) ≡ advanced by (now (bytes .entry)) ⌝ }
@@ -104,4 +116,19 @@ pub fn copy(to: &mut [u8], from: &[u8])
         to[i] = from[i];
         i += 1;
     }
+}
+
+// Every byte of s is at most n. All are looked at: a loop that does not leave early is compiled to take many at a time.
+pub fn up_to(n: u8, s: &[u8]) -> bool
+    ensures { λ r. ⌜ r ≡ allUpTo n (now (s .entry)) ⌝ }
+{
+    let mut most: u8 = 0;
+    let mut i = 0;
+    while i < s.len() {
+        if most < s[i] {
+            most = s[i];
+        }
+        i += 1;
+    }
+    most <= n
 }

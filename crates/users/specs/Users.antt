@@ -2,10 +2,11 @@
 -- have room for: 16 in a condition.
 use Prim.Native.Nat.{ℕ, zero, suc, _+_, _-_, _*_, _/_, min}
 use mathlib.Core.List.{List, [], _∷_, _++_}
-use mathlib.Core.Bool.{Bool, true, false, cond}
+use mathlib.Core.Bool.{Bool, true, false, cond, not, _&&_}
 use lib.ListN.{length, getD, take, drop, replicate}
 use lib.Seq.{sets}
 use lib.Dec.{eqb, ltb, leb}
+use Rattle.row.specs.Row.{allUpTo}
 use Rattle.users.specs.declared.Users.{Users}
 use Rattle.dots.specs.declared.Character.{Character}
 use Rattle.users.specs.declared.Found.{Found}
@@ -104,3 +105,24 @@ defineOf u code held last = withYoungest (without (leavingOf u code) (inRoom u))
 unfoldable pub defineIn : List ℕ → ℕ → ℕ → List ℕ → ℕ → Users
 defineIn us count code held last =
     cond (ltb (length us) 6) (usersIn us count) (defineOf (usersIn us count) code held last)
+
+-- Well formed: no code twice, each fifth byte in range, every unused place 0 -------------------------------------------------------
+
+-- the code x stands in none of the first n places of six bytes
+unfoldable pub absent : ℕ → ℕ → List ℕ → Bool
+absent x zero l = true
+absent x (suc n) l = not (eqb (getD l 0 0) x) && absent x n (drop 6 l)
+
+-- user codes distinct, each fifth byte below the bound, over the first n places; the other places are 0
+unfoldable pub placesFormed : ℕ → ℕ → List ℕ → Bool
+placesFormed bound zero l = allUpTo 0 l
+placesFormed bound (suc n) l =
+    ltb (getD l 5 0) bound && (absent (getD l 0 0) n (drop 6 l) && placesFormed bound n (drop 6 l))
+
+-- the same of any bytes: more than there are places for are never formed
+unfoldable pub usersFormed : ℕ → List ℕ → ℕ → Bool
+usersFormed bound us count = leb count (length us / 6) && placesFormed bound count us
+
+-- 0 to 4 bytes are held of a user character that is being received, and the held bytes from the count up are 0
+unfoldable pub heldFormed : ℕ → List ℕ → Bool
+heldFormed n h = leb n 4 && allUpTo 0 (drop n h)

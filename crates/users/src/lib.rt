@@ -1,9 +1,11 @@
-// User characters in places of six bytes, a code and five bytes, the oldest first. A condition has 16 places.
+// User characters in places of six bytes, a code and five bytes, the oldest first. A condition has 16 places, that of the
+// lounge module eight.
 ghost use mathlib.Core.Path.{_≡_};
 ghost use Prim.Native.Nat.{_+_, _*_, _≤_};
 ghost use lib.ListN.{length};
 ghost use Rattle.users.specs.Users.{roomOf, limitOf, foundIn, isFound, characterAt, putOf};
 ghost use Rattle.users.specs.Users.{usersIn, leavingOf, removed, defineIn};
+ghost use Rattle.users.specs.Users.{absent, usersFormed, heldFormed};
 use dots::Character;
 
 pub struct Users {
@@ -18,6 +20,9 @@ impl Users {
     pub const PLACE: usize = 6;
 
     pub const BYTES: usize = 96;
+
+    // The bytes that are held of a character until its fifth comes.
+    pub const HELD: usize = 4;
 
     // The bytes of two places.
     const TWO: usize = 12;
@@ -153,4 +158,60 @@ pub fn define(bytes: &mut [u8], count: u8, code: u8, held: [u8; 4], last: u8) ->
     }
     put(bytes, n * Users::PLACE, code, held, last);
     (n + 1) as u8
+}
+
+// The code x stands in none of the first n places of s.
+fn is_absent(x: u8, n: usize, s: &[u8]) -> bool
+    requires { ⌜ 6 * n ≤ length (now s) ⌝ }
+    ensures { λ r. ⌜ r ≡ absent x n (now (s .entry)) ⌝ }
+{
+    let mut left = n;
+    let mut at = 0;
+    while 0 < left {
+        if s[at] == x {
+            return false;
+        }
+        at += Users::PLACE;
+        left -= 1;
+    }
+    true
+}
+
+// No code stands twice in the first `count` places, each fifth byte is below the bound, and the other places are 0. More than
+// there are places for are never formed.
+pub fn are_formed(bytes: &[u8], count: u8, bound: u8) -> bool
+    ensures { λ r. ⌜ r ≡ usersFormed bound (now (bytes .entry)) count ⌝ }
+{
+    let mut left = count as usize;
+    if bytes.len() / Users::PLACE < left {
+        return false;
+    }
+    let mut at = 0;
+    while 0 < left {
+        let x = bytes[at];
+        let d = bytes[at + 5];
+        left -= 1;
+        at += Users::PLACE;
+        if bound <= d {
+            return false;
+        }
+        if !is_absent(x, left, &bytes[at..]) {
+            return false;
+        }
+    }
+    row::up_to(0, &bytes[at..])
+}
+
+// Of a character that is being received 0 to 4 bytes are held; those from the count up are 0.
+pub fn held_formed(count: u8, held: &[u8]) -> bool
+    ensures { λ r. ⌜ r ≡ heldFormed count (now (held .entry)) ⌝ }
+{
+    let n = count as usize;
+    if Users::HELD < n {
+        return false;
+    }
+    if held.len() < n {
+        return true;
+    }
+    row::up_to(0, &held[n..])
 }

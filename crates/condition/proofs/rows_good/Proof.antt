@@ -1,5 +1,11 @@
 use borrow.Author.Tests.{eq-eqb, ne-eqb, le-leb, lt-leb}
 use borrow.Author.Needs.{needs}
+use mathlib.Core.Path.{_≡_}
+use Prim.Native.Nat.{_/_}
+use native.Mathlib.Omega.{arith}
+use lib.ListN.{length}
+use Rattle.users.specs.Users.{roomOf, usersFormed}
+use Rattle.users.proofs.Formed.{absent-unfound}
 use Rattle.condition.specs.Rows.{rowsGood}
 use Rattle.condition.proofs.rows_good.Statement.{statement}
 use Rattle.condition.proofs.rows_good.Tie as tie
@@ -25,26 +31,38 @@ returns-4 c =
 up-to-requires : tie.Need-up-to-requires
 up-to-requires c κs = search needs
 
-users-good-requires : tie.Need-users-good-requires
-users-good-requires c κs = search needs
+are-formed-requires : tie.Need-are-formed-requires
+are-formed-requires c κs = search needs
 
-pending-good-requires : tie.Need-pending-good-requires
-pending-good-requires c κs = search needs
+held-of-requires : tie.Need-held-of-requires
+held-of-requires c κs = search needs
+
+held-formed-requires : tie.Need-held-formed-requires
+held-formed-requires c κs = search needs
 
 is-idle-requires : tie.Need-is-idle-requires
 is-idle-requires c κs = search needs
 
-is-absent-requires : tie.Need-is-absent-requires
-is-absent-requires c κs = search needs
+find-requires : tie.Need-find-requires
+find-requires c κs = search needs
+
+is-found-requires : tie.Need-is-found-requires
+is-found-requires c κs = search needs
 
 returns-5 : tie.Need-returns-5
-unfolding rowsGood
+unfolding rowsGood usersFormed roomOf
 returns-5 c =
-    let t = c .before .before .before .before .before in
-    rw (c .is-absent .ensures, c .before .is-idle .ensures, c .before .before .pending-good .ensures)
-    (rw (c .before .before .before .users-good .ensures, c .before .before .before .before .up-to .ensures)
-    (rw (eq-eqb _ _ (t .before .before .before .if1 .left), eq-eqb _ _ (t .before .before .if2 .left))
-    (rw (eq-eqb _ _ (t .before .if3 .left), le-leb _ _ (t .if4 .left)))))
+    let i = c .before .before in
+    let h = i .before in
+    let f = h .before .before in
+    let t = f .before .before in
+    let a = t .before .before .before .before .before .before .before .args in
+    let l = t .if4 .left in
+    let sized : length (a .users .now) ≡ 96 = t .before .before .if2 .left in
+    rw (c .is-found .ensures, c .before .find .ensures, i .is-idle .ensures, h .held-formed .ensures, h .before .held-of .ensures)
+    (rw (f .are-formed .ensures, f .before .up-to .ensures, absent-unfound (a .users .now) (a .count) 0x1B (omega arith))
+    (rw (eq-eqb _ _ (t .before .before .before .if1 .left), eq-eqb _ _ sized)
+    (rw (eq-eqb _ _ (t .before .if3 .left), le-leb _ _ l, le-leb (a .count) (length (a .users .now) / 6) (omega arith)))))
 
 pub rows-good-spec : {M : Type 1} → statement M
 rows-good-spec =
@@ -55,8 +73,10 @@ rows-good-spec =
     returns-3
     returns-4
     up-to-requires
-    users-good-requires
-    pending-good-requires
+    are-formed-requires
+    held-of-requires
+    held-formed-requires
     is-idle-requires
-    is-absent-requires
+    find-requires
+    is-found-requires
     returns-5)

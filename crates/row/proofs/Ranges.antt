@@ -2,13 +2,13 @@
 use mathlib.Core.Path.{_≡_, refl}
 use mathlib.Core.Bool.{true}
 use mathlib.Core.List.{List, [], _∷_, _++_}
-use Prim.Native.Nat.{ℕ, zero, suc, _≤_}
+use Prim.Native.Nat.{ℕ, zero, suc, _+_, _≤_}
 use native.Mathlib.Omega.{arith}
 use lib.Dec.{leb}
 use lib.ListN.{length, getD, set, take, drop, replicate}
 use borrow.Author.Tests.{leb-true, le-leb}
 use Rattle.laws.proofs.Tests.{both}
-use Rattle.condition.specs.Condition.{allUpTo}
+use Rattle.row.specs.Row.{allUpTo, scrolled, shifted, clearedLine}
 
 -- every element is at most n
 pub up-to-at : (n : ℕ) (l : List ℕ) → allUpTo n l ≡ true → (i : ℕ) → getD l i 0 ≤ n
@@ -62,3 +62,24 @@ pub up-to-replicate : (n k x : ℕ) → x ≤ n → allUpTo n (replicate k x) �
 unfolding allUpTo
 up-to-replicate n zero x h = refl
 up-to-replicate n (suc k) x h = rw (le-leb x n h) (up-to-replicate n k x h)
+
+-- Rows that are moved or cleared stay so ---------------------------------------------------------------------------------------
+
+module _ (n v : ℕ) (a : List ℕ) (h : v ≤ n) (e : allUpTo n a ≡ true) where
+  pub scrolled-up-to : allUpTo n (scrolled v a) ≡ true
+  unfolding scrolled
+  scrolled-up-to = up-to-append n (drop 20 a) (replicate 20 v) (up-to-drop n 20 a e) (up-to-replicate n 20 v h)
+
+  pub shifted-up-to : (start : ℕ) → allUpTo n (shifted start v a) ≡ true
+  unfolding shifted
+  shifted-up-to start =
+      up-to-append n (take start a ++ take 19 (drop (start + 1) a)) (v ∷ drop (start + 20) a)
+      (up-to-append n (take start a) (take 19 (drop (start + 1) a)) (up-to-take n start a e)
+      (up-to-take n 19 (drop (start + 1) a) (up-to-drop n (start + 1) a e)))
+      (up-to-cons n v (drop (start + 20) a) h (up-to-drop n (start + 20) a e))
+
+  pub cleared-up-to : (start : ℕ) → allUpTo n (clearedLine start v a) ≡ true
+  unfolding clearedLine
+  cleared-up-to start =
+      up-to-append n (take start a) (replicate 20 v ++ drop (start + 20) a) (up-to-take n start a e)
+      (up-to-append n (replicate 20 v) (drop (start + 20) a) (up-to-replicate n 20 v h) (up-to-drop n (start + 20) a e))

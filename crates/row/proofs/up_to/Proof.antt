@@ -9,9 +9,9 @@ use lib.Dec.{leb}
 use lib.ListN.{length, getD, drop, drop-of-length-le}
 use lib.Seq.{drop-cons}
 use borrow.Author.Tests.{le-leb, lt-leb, leb-true, leb-false}
-use Rattle.condition.specs.Condition.{allUpTo}
-use Rattle.condition.proofs.up_to.Statement.{statement}
-use Rattle.condition.proofs.up_to.Tie as tie
+use Rattle.row.specs.Row.{allUpTo}
+use Rattle.row.proofs.up_to.Statement.{statement}
+use Rattle.row.proofs.up_to.Tie as tie
 
 -- a turn: m is the most so far, k with one byte more
 turned : (n : ℕ) (s : List ℕ) (i m k : ℕ) → i < length s → m ≤ k → getD s i 0 ≤ k → (k ≡ m) ⊎ (k ≡ getD s i 0)

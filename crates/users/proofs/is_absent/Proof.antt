@@ -3,10 +3,10 @@ use Prim.Native.Nat.{_+_, _*_, _≤_}
 use native.Mathlib.Omega.{arith}
 use lib.ListN.{length, drop}
 use borrow.Author.Tests.{eq-eqb, ne-eqb}
-use Rattle.condition.specs.Condition.{absent}
-use Rattle.condition.proofs.Rows.{absent-step}
-use Rattle.condition.proofs.is_absent.Statement.{statement}
-use Rattle.condition.proofs.is_absent.Tie as tie
+use Rattle.users.specs.Users.{absent}
+use Rattle.users.proofs.Formed.{absent-step}
+use Rattle.users.proofs.is_absent.Statement.{statement}
+use Rattle.users.proofs.is_absent.Tie as tie
 
 abbrev Inv-loop : tie.InvT-loop
 Inv-loop x n s left₀ at₀ left at = (absent x n s ≡ absent x left (drop at s)) × (at + 6 * left ≤ length s) × (left ≤ n)
