@@ -13,12 +13,13 @@ use Rattle.condition.specs.declared.Condition.{Condition}
 use Rattle.condition.specs.declared.Pending.{Pending}
 use Rattle.condition.specs.declared.Pending.the-variants.{Nothing, Escape, Position, Luminance, Speed, UserCode, UserData}
 use Rattle.row.specs.Row.{allUpTo}
-use Rattle.condition.specs.Condition.{flag, heldOf}
+use Rattle.laws.specs.Flags.{flag}
+use Rattle.condition.specs.Condition.{heldOf}
 use Rattle.layout.specs.Layout.{kindOf, codeOf, headOf, packedOf, pendingOf, conditionIn}
 use Rattle.block.specs.Block.{checkOf, bodyOf, sealOf, blockOf}
 use Rattle.block.specs.Reading.{sameBytes, intact}
 use Rattle.block.specs.Tidy.{kindGood, restZero, tidy}
-use Rattle.condition.proofs.Flags.{flag-most, flag-fits}
+use Rattle.laws.proofs.Flags.{flag-most, flag-fits}
 use Rattle.condition.proofs.Good.{Sized}
 use Rattle.laws.proofs.Lists.{cut, gets, bytewise}
 use Rattle.layout.proofs.PackedBack.{length-packed, sized-in, repacked}

@@ -1,4 +1,3 @@
-pub mod Flags
 pub mod Characters
 pub mod Rows
 pub mod Each

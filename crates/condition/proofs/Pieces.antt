@@ -13,11 +13,11 @@ use Rattle.laws.proofs.Tests.{by-test}
 use Rattle.condition.specs.declared.Condition.{Condition}
 use Rattle.condition.specs.declared.Pending.{Pending}
 use Rattle.condition.specs.declared.Pending.the-variants.{Nothing, Escape, Position, Luminance, Speed, UserCode, UserData}
-use Rattle.condition.specs.Condition.{flag}
+use Rattle.laws.specs.Flags.{flag}
 use Rattle.condition.specs.Bytes.{isChar, stepOf, runOf}
 use Rattle.condition.specs.Busy.{rightScrolls, downScrolls, lineShifts, writeBusy, controlBusy, escapeBusy, quickAt}
 use Rattle.condition.specs.Busy.{totalOf, quickFigure, worstFigure, whileOn, busyOf, worstOf, flickerlessOf}
-use Rattle.condition.proofs.Flags.{flag-most}
+use Rattle.laws.proofs.Flags.{flag-most}
 
 -- One run or several with the same bytes in turn end alike ----------------------------------------------------------------
 

@@ -28,5 +28,6 @@ rows-law c f u h =
     let m =
     ltb (c .cursor) 40 && leb 1 (c .mode) && leb (c .mode) 3 && leb (c .font) 1 && leb (c .link) 1 && leb (c .luminance) 3 in
     rw (eq-eqb _ _ f, eq-eqb _ _ u, eq-eqb _ _ h)
-    (grouped m (leb (c .users .count) 16) (scrollGood c) (allUpTo 1 (c .fonts)) (placesFormed 16 (c .users .count) (c .users .bytes))
+    (grouped m (leb (c .users .count) 16) (scrollGood c) (allUpTo 1 (c .fonts)) (placesFormed 16 (c .users .count)
+    (c .users .bytes))
     (heldFormed (heldOf (c .pending)) (c .held)) (idle (c .pending) || absent 0x1B (c .users .count) (c .users .bytes)))

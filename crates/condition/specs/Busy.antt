@@ -8,7 +8,8 @@ use Rattle.condition.specs.declared.Condition.{Condition}
 use Rattle.condition.specs.declared.Figures.{Figures}
 use Rattle.condition.specs.declared.Pending.{Pending}
 use Rattle.condition.specs.declared.Pending.the-variants.{Nothing, Escape, Position, Luminance, Speed, UserCode, UserData}
-use Rattle.condition.specs.Condition.{column, flag}
+use Rattle.laws.specs.Flags.{flag}
+use Rattle.condition.specs.Condition.{column}
 use Rattle.condition.specs.Bytes.{isChar, stepOf}
 
 -- the display scrolls when the cursor goes right: from 39 in mode 2

@@ -15,11 +15,6 @@ use Rattle.condition.specs.declared.Pending.the-variants.{Nothing, Escap
 abbrev pub column : Condition → ℕ
 column c = c .cursor % 20
 
--- a flag as a number, 0 or 1
-abbrev pub flag : Bool → ℕ
-flag true = 1
-flag false = 0
-
 -- the half-received command is none
 abbrev pub idle : Pending → Bool
 idle Nothing = true

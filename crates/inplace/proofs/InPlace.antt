@@ -16,19 +16,9 @@ use Rattle.condition.specs.Set.{withCursor, withScrolling, withShown, withFont,
 use Rattle.condition.specs.Set.{withFlickerless, withUsers, withPending, withCells, goTo}
 use Rattle.condition.specs.Bytes.{modeOf, internationalOf}
 use Rattle.layout.specs.Layout.{conditionIn, pendingOf}
-use Rattle.laws.proofs.Lists.{part-length, gets, bytewise}
+use Rattle.laws.proofs.Lists.{part-length, gets, bytewise, Each, each}
 use Rattle.layout.proofs.Parts.{cut-parts, in-codes, past-codes, past-fonts, up-to-fonts, in-fonts, in-users}
 use Rattle.inplace.specs.InPlace.{blankOf, heldIn, releasedIn, resetIn, withUserBytes, definedIn}
-
--- a property of every list of n elements or more, by its first n elements
-abbrev Each : ℕ → (List ℕ → Type 0) → Type 0
-Each zero P = (r : List ℕ) → P r
-Each (suc n) P = (a : ℕ) → Each n (λ (l : List ℕ). P (a ∷ l))
-
-each : (n : ℕ) (P : List ℕ → Type 0) → Each n P → (s : List ℕ) → n ≤ length s → P s
-each zero P f s h = f s
-each (suc n) P f [] h = let z : ⊥ = omega arith in absurd z
-each (suc n) P f (a ∷ s) h = each n (λ (l : List ℕ). P (a ∷ l)) (f a) s (omega arith)
 
 -- stores f, among the first 24 bytes, make g of the condition
 abbrev Makes : (List ℕ → List ℕ) → (Condition → Condition) → List ℕ → Type 0

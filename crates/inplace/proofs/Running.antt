@@ -7,7 +7,8 @@ use native.Mathlib.Omega.{arith}
 use lib.Dec.{eqb}
 use lib.ListN.{length, getD, drop}
 use Rattle.condition.specs.declared.Condition.{Condition}
-use Rattle.condition.specs.Condition.{flag, wellFormed}
+use Rattle.laws.specs.Flags.{flag}
+use Rattle.condition.specs.Condition.{wellFormed}
 use Rattle.condition.specs.Bytes.{runOf}
 use Rattle.condition.specs.declared.Figures.{Figures}
 use Rattle.condition.specs.Busy.{quickFigure, worstFigure, whileOn, busyOf, worstOf, flickerlessOf}

@@ -1,11 +1,12 @@
 -- Parts of lists, and stores one after the other.
 use mathlib.Core.Path.{_≡_, refl, sym, ap, _∙_}
-use mathlib.Core.List.{List, [], _∷_, _++_}
+use mathlib.Core.List.{List, [], _∷_, _++_, map, append-nil}
 use Prim.Native.Nat.{ℕ, zero, suc, _+_, _-_, _≤_, _<_}
-use native.Mathlib.Nat.{add-zero}
+use native.Mathlib.Nat.{add-zero, zero-add}
+use native.Mathlib.Numerals.{add-one}
 use native.Mathlib.Omega.{arith}
 use lib.ListN.{length, getD, take, drop, set, replicate, length-drop, length-set, length-replicate, take-append-drop}
-use lib.ListN.{List·getD-append, replicate-append-replicate}
+use lib.ListN.{List·getD-append, replicate-append-replicate, drop-of-length-le}
 use lib.Seq.{sets, take-all, take-at, drop-at, drop-drop, drop-cons, length-take-le, getD-set-same, getD-set-other, getD-append-add}
 
 -- the part of a list from a place on
@@ -54,6 +55,12 @@ bytewise (suc n) at l h =
     let e : suc at + n ≡ at + suc n = omega arith in
     drop-cons l at 0 lt ∙ ap (λ (r : List ℕ). getD l at 0 ∷ r) (bytewise n (suc at) l (omega arith) ∙ rw e)
 
+-- all of them
+pub gets-all : (n : ℕ) (l : List ℕ) → length l ≡ n → gets n 0 l ≡ l
+gets-all n l e =
+    let all : length l ≤ n = omega arith in
+    sym (bytewise n 0 l (omega arith) ∙ rw (zero-add n, drop-of-length-le l all) (append-nil (gets n 0 l)))
+
 -- the stores of a list and those of another behind it
 pub sets-append : (l : List ℕ) (i : ℕ) (xs ys : List ℕ) → sets l i (xs ++ ys) ≡ sets (sets l i xs) (i + length xs) ys
 sets-append l i [] ys = ap (λ (k : ℕ). sets l k ys) (sym (add-zero i))
@@ -76,3 +83,38 @@ sets-there l at (x ∷ xs) zero h m =
 sets-there l at (x ∷ xs) (suc j) h m =
     let e : at + suc j ≡ suc at + j = omega arith in
     rw e (sets-there (set l at x) (suc at) xs j (rw (length-set l at x) (omega arith)) (omega arith))
+
+-- a property of every list of n elements or more, by its first n elements
+abbrev pub Each : ℕ → (List ℕ → Type 0) → Type 0
+Each zero P = (r : List ℕ) → P r
+Each (suc n) P = (a : ℕ) → Each n (λ (l : List ℕ). P (a ∷ l))
+
+pub each : (n : ℕ) (P : List ℕ → Type 0) → Each n P → (s : List ℕ) → n ≤ length s → P s
+each zero P f s h = f s
+each (suc n) P f [] h = absurd (omega arith)
+each (suc n) P f (a ∷ s) h = each n (λ (l : List ℕ). P (a ∷ l)) (f a) s (omega arith)
+
+-- the next two of what is left
+pub next-two : (s : List ℕ) (i : ℕ) → i + 2 ≤ length s → drop i s ≡ getD s i 0 ∷ getD s (i + 1) 0 ∷ drop (i + 2) s
+next-two s i h =
+    let one : suc i ≡ i + 1 = omega arith in
+    let two : suc (i + 1) ≡ i + 2 = omega arith in
+    let rest : drop (i + 1) s ≡ getD s (i + 1) 0 ∷ drop (i + 2) s = drop-cons s (i + 1) 0 (omega arith) ∙ rw two in
+    drop-cons s i 0 (omega arith) ∙ rw (one, rest)
+
+-- Each element changed where it stands ------------------------------------------------------------------------------------------
+
+-- a turn of a loop that changes each element by f, where it stands
+pub map-turn : (f : ℕ → ℕ) (d out : List ℕ) (i : ℕ) → out ≡ map f (take i d) ++ drop i d → i < length d
+    → set out i (f (getD out i 0)) ≡ map f (take (i + 1) d) ++ drop (i + 1) d
+map-turn f d out i e h = rw (e, add-one i) (go d i h)
+  where
+    go : (d : List ℕ) (i : ℕ) → i < length d
+        → set (map f (take i d) ++ drop i d) i (f (getD (map f (take i d) ++ drop i d) i 0)) ≡ map f (take (suc i) d) ++ drop
+        (suc i) d
+    go [] i h = absurd (omega arith)
+    go (x ∷ d) zero h = refl
+    go (x ∷ d) (suc i) h = ap (λ (l : List ℕ). f x ∷ l) (go d i (omega arith))
+
+pub map-done : (f : ℕ → ℕ) (d out : List ℕ) (i : ℕ) → out ≡ map f (take i d) ++ drop i d → length d ≤ i → out ≡ map f d
+map-done f d out i e h = e ∙ rw (take-all i d h, drop-of-length-le d h) (append-nil (map f d))

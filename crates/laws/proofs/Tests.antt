@@ -1,11 +1,12 @@
 -- Tests: what one tells, alone or joined with another. (`or-true`, `and-false`, `and-not-self` and their like are in
 -- mathlib.Core.Bool; what tests of numbers tell is in borrow.Author.Tests.)
 use mathlib.Core.Path.{_≡_, refl, sym, _∙_, subst}
-use mathlib.Core.Bool.{Bool, true, false, cond, _&&_, _||_}
-use Prim.Native.Nat.{ℕ, suc}
+use mathlib.Core.Logic.{_⊎_, ⊎-elim}
+use mathlib.Core.Bool.{Bool, true, false, cond, _&&_, _||_, and-false}
+use Prim.Native.Nat.{ℕ, suc, _<_, _≤_}
 use native.Mathlib.Omega.{arith}
-use lib.Dec.{T, eqb}
-use borrow.Author.Tests.{lt-ltb, le-ltb, le-leb, lt-leb, eq-eqb, ne-eqb, eqb-true, eqb-false}
+use lib.Dec.{T, eqb, leb}
+use borrow.Author.Tests.{lt-ltb, le-ltb, le-leb, lt-leb, eq-eqb, ne-eqb, eqb-true, eqb-false, leb-true, leb-false}
 
 -- what turns a test of numbers into its answer: `search tests`
 pub ruleset tests = (lt-ltb, le-ltb, le-leb, lt-leb, eq-eqb, ne-eqb)
@@ -51,3 +52,18 @@ number-by {A} number n ea eb =
 -- two numbers are equal or they are not
 pub by-equal : {P : Type 0} (i k : ℕ) → (i ≡ k → P) → ((i ≡ k → ⊥) → P) → P
 by-equal i k f g = by-cases (eqb i k) (λ e. f (eqb-true i k e)) (λ e. g (eqb-false i k e))
+
+-- of two numbers m and x the larger, k, is at most n where both are
+pub most-of : (n m x k : ℕ) (rest : Bool) → m ≤ k → x ≤ k → (k ≡ m) ⊎ (k ≡ x) → (leb m n && (leb x n && rest)) ≡ (leb k n && rest)
+most-of n m x k rest hm hx hk = go (leb k n) refl
+  where
+    go : (t : Bool) → leb k n ≡ t → (leb m n && (leb x n && rest)) ≡ (t && rest)
+    go true e =
+        let l : k ≤ n = leb-true k n e in
+        let a : m ≤ n = omega arith in
+        let b : x ≤ n = omega arith in
+        rw (le-leb m n a, le-leb x n b)
+    go false e =
+        let l : n < k = omega (arith, leb-false k n e) in
+        ⊎-elim (λ (f : k ≡ m). let a : n < m = omega arith in rw (lt-leb m n a))
+        (λ (f : k ≡ x). let a : n < x = omega arith in rw (lt-leb x n a) (and-false (leb m n))) hk

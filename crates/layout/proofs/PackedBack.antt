@@ -5,7 +5,7 @@ use mathlib.Core.Bool.{false}
 use mathlib.Core.List.{List, [], _++_, append-assoc, append-nil}
 use native.Mathlib.Omega.{arith}
 use lib.Dec.{eqb}
-use lib.ListN.{length, getD, take, drop, replicate, length-append, drop-of-length-le}
+use lib.ListN.{length, getD, take, drop, replicate, length-append}
 use borrow.Author.Tests.{ne-eqb, lt-ltb, le-ltb}
 use Rattle.row.specs.Row.{laid}
 use Rattle.condition.specs.declared.Condition.{Condition}
@@ -13,9 +13,9 @@ use Rattle.condition.specs.declared.Pending.{Pending}
 use Rattle.condition.specs.declared.Pending.the-variants.{Nothing, Escape, Position, Luminance, Speed, UserCode, UserData}
 use Rattle.condition.specs.Condition.{heldOf, powerUp}
 use Rattle.layout.specs.Layout.{kindOf, codeOf, headOf, packedOf, pendingOf, conditionIn, unpackedOf}
-use Rattle.condition.proofs.Flags.{flag-back}
+use Rattle.laws.proofs.Flags.{flag-back}
 use Rattle.condition.proofs.Good.{Sized}
-use Rattle.laws.proofs.Lists.{part-length, gets, bytewise}
+use Rattle.laws.proofs.Lists.{part-length, gets-all}
 use Rattle.layout.proofs.Parts.{copied, cut-parts, in-codes, in-fonts, in-users}
 
 -- bytes that hold a condition, and bytes that are too few
@@ -86,11 +86,6 @@ pending-back Speed = refl
 pending-back UserCode = refl
 pending-back (UserData x n) = refl
 
-held-back : (h : List ℕ) → length h ≡ 4 → gets 4 0 h ≡ h
-held-back h e =
-    let all : length h ≤ 4 = omega arith in
-    sym (bytewise 4 0 h (omega arith) ∙ rw (drop-of-length-le h all))
-
 -- whatever stands behind them, the packed bytes are read as the condition that they were packed from
 pub back-with : (c : Condition) (r : List ℕ) → Sized c → conditionIn (packedOf c ++ r) ≡ c
 unfolding conditionIn packedOf headOf
@@ -118,7 +113,7 @@ back-with c r z =
       flickerless = flag-back (c .flickerless) i;
       users = record { bytes = users i; count = c .users .count };
       pending = pending-back (c .pending) i;
-      held = held-back (c .held) (z .held-4) i;
+      held = gets-all 4 (c .held) (z .held-4) i;
     }
 
 pub packed-back : (c : Condition) → Sized c → conditionIn (packedOf c) ≡ c

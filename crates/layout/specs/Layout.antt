@@ -7,7 +7,8 @@ use lib.Dec.{eqb, ltb}
 use Rattle.condition.specs.declared.Condition.{Condition}
 use Rattle.condition.specs.declared.Pending.{Pending}
 use Rattle.condition.specs.declared.Pending.the-variants.{Nothing, Escape, Position, Luminance, Speed, UserCode, UserData}
-use Rattle.condition.specs.Condition.{flag, heldOf, powerUp}
+use Rattle.laws.specs.Flags.{flag}
+use Rattle.condition.specs.Condition.{heldOf, powerUp}
 
 -- 13 half-received kind 0 to 6 in the order of "The condition"
 abbrev pub kindOf : Pending → ℕ

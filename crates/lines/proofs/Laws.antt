@@ -19,6 +19,7 @@ use Rattle.row.proofs.Laws.{laid-none, laid-empty, laid-both}
 use Rattle.io.specs.Digits.{digits, Fewest}
 use Rattle.interpreter.specs.declared.Ran.{Ran}
 use Rattle.lines.specs.Lines.{Added, each, digit, decimalIn, decimalOf, tallyLine, refusedLine, endStart, endOf, printOf}
+use Rattle.lines.specs.Lines.{codeText, hexLine, cellLines}
 
 -- x laid from k on
 abbrev put : ℕ → List ℕ → List ℕ → List ℕ
@@ -167,6 +168,22 @@ decimal-in-length (suc f) n =
 pub decimal-length : (n : ℕ) → length (decimalOf n) ≤ 20
 unfolding decimalOf
 decimal-length n = decimal-in-length 20 n
+
+-- three bytes for each code
+pub hex-length : (codes : List ℕ) → length (hexLine codes) ≤ length codes * 3
+unfolding hexLine codeText
+hex-length codes = each-length (codeText codes) 3 (length codes) (λ i. omega arith)
+
+pub cells-length : (codes : List ℕ) → length codes ≡ 40 → length (cellLines codes) ≤ 120
+unfolding cellLines
+cells-length codes h =
+    let top = hex-length (take 20 codes) in
+    let bottom = hex-length (drop 20 codes) in
+    simp length-append (omega (arith, top, bottom, length-take 20 codes, length-drop 20 codes))
+
+pub refused-length : (n : ℕ) → length (refusedLine n) ≤ 29
+unfolding refusedLine
+refused-length n = simp length-append (omega (arith, decimal-length n))
 
 -- what ends a print has at most 113 bytes
 pub print-length : (body : List ℕ) (r : Ran) → length (printOf body r) ≤ length body + 113

@@ -1,11 +1,11 @@
--- Lines of text in a lent buffer: words, numbers, hex, and what ends a program's print of a run.
+-- Lines of text in a lent buffer: words, numbers, hex, codes by line, and what ends a program's print of a run.
 use Prim.Native.Nat.{ℕ, zero, suc, _+_, _-_, _/_, _%_, min}
 use Prim.Native.Char.{code}
 use Prim.Native.String.{String, [] as []ˢ, _∷_ as _∷ˢ_}
 use mathlib.Core.Path.{_≡_}
 use mathlib.Core.Bool.{cond}
 use mathlib.Core.List.{List, [], _∷_, _++_}
-use lib.ListN.{length, take, drop}
+use lib.ListN.{length, getD, take, drop}
 use lib.Dec.{eqb, ltb}
 use Rattle.row.specs.Row.{laid}
 use Rattle.condition.specs.Condition.{powerUp}
@@ -40,6 +40,10 @@ hexDigit n = cond (ltb n 10) (digit n) (code "A" + (n - 10))
 abbrev pub hexOf : ℕ → List ℕ
 hexOf b = hexDigit (b / 16) ∷ hexDigit (b % 16) ∷ []
 
+-- the last digit of a byte
+abbrev pub lastDigit : ℕ → List ℕ
+lastDigit b = hexDigit (b % 16) ∷ []
+
 -- a number in decimal, of at most f digits
 unfoldable pub decimalIn : ℕ → ℕ → List ℕ
 decimalIn zero n = []
@@ -54,6 +58,22 @@ numbered word n = word ++ decimalOf n
 
 abbrev pub newLine : List ℕ
 newLine = text "\n"
+
+-- what follows the code at i of n codes: one space between, a new line at the end
+unfoldable pub separatorOf : ℕ → ℕ → ℕ
+separatorOf i n = cond (eqb (n - i) 1) (code "\n") (code " ")
+
+-- the code at i in two-digit hex, and what follows it
+unfoldable pub codeText : List ℕ → ℕ → List ℕ
+codeText codes i = hexOf (getD codes i 0) ++ separatorOf i (length codes) ∷ []
+
+-- codes in two-digit hex with one space between, then a new line
+unfoldable pub hexLine : List ℕ → List ℕ
+hexLine codes = each (codeText codes) (length codes)
+
+-- codes by line
+unfoldable pub cellLines : List ℕ → List ℕ
+cellLines codes = hexLine (take 20 codes) ++ hexLine (drop 20 codes)
 
 -- the tally: `bytes B busy T flickerless F worst N`
 unfoldable pub tallyLine : Tally → List ℕ

@@ -2,8 +2,14 @@
 ghost use mathlib.Core.Path.{_≡_};
 ghost use mathlib.Core.List.{_++_};
 ghost use Prim.Native.Nat.{_<_};
-ghost use Rattle.lines.specs.Lines.{Added, hexDigit, hexOf, numbered, endStart, endOf};
+ghost use lib.ListN.{length};
+ghost use Rattle.lines.specs.Lines.{Added, hexDigit, hexOf, lastDigit, numbered, endStart, endOf};
+ghost use Rattle.lines.specs.Lines.{separatorOf, hexLine, cellLines, refusedLine};
 use interpreter::Ran;
+
+const CELLS: usize = 40;
+
+const LINE: usize = 20;
 
 // A word comes at k.
 pub fn add_word(out: &mut [u8], k: usize, word: &[u8]) -> usize
@@ -45,13 +51,66 @@ pub fn add_hex(out: &mut [u8], k: usize, word: &[u8], b: u8) -> usize
     add_word(out, at, &two)
 }
 
+// A byte's last hex digit comes at k.
+pub fn add_digit(out: &mut [u8], k: usize, b: u8) -> usize
+    ensures { λ r. ⌜ Added (now (out .entry)) k (lastDigit b) (now (out .exit)) r ⌝ }
+{
+    let one = [hex_digit(b % 16)];
+    add_word(out, k, &one)
+}
+
+// What follows the code at i of n codes: a space, or a new line after the last.
+fn separator(i: usize, n: usize) -> u8
+    requires { ⌜ i < n ⌝ }
+    ensures { λ r. ⌜ r ≡ separatorOf i n ⌝ }
+{
+    if n - i == 1 { b'\n' } else { b' ' }
+}
+
+// The codes in hex with one space between come at k, and a new line.
+pub fn add_codes(out: &mut [u8], k: usize, codes: &[u8]) -> usize
+    ensures { λ r. ⌜ Added (now (out .entry)) k (hexLine (now (codes .entry))) (now (out .exit)) r ⌝ }
+{
+    let mut at = k;
+    let mut i: usize = 0;
+    while i < codes.len() {
+        let next = add_hex(out, at, b"", codes[i]);
+        let gap = [separator(i, codes.len())];
+        at = add_word(out, next, &gap);
+        i += 1;
+    }
+    at
+}
+
+fn add_lines(out: &mut [u8], k: usize, codes: &[u8]) -> usize
+    requires { ⌜ length (now codes) ≡ 40 ⌝ }
+    ensures { λ r. ⌜ Added (now (out .entry)) k (cellLines (now (codes .entry))) (now (out .exit)) r ⌝ }
+{
+    let at = add_codes(out, k, &codes[..LINE]);
+    add_codes(out, at, &codes[LINE..])
+}
+
+// The codes of a picture by line: 40 places, two lines of 20.
+pub fn add_cells(out: &mut [u8], k: usize, codes: [u8; CELLS]) -> usize
+    ensures { λ r. ⌜ Added (now (out .entry)) k (cellLines codes) (now (out .exit)) r ⌝ }
+{
+    add_lines(out, k, &codes)
+}
+
+// `refused N` comes at k.
+pub fn add_refused(out: &mut [u8], k: usize, n: u8) -> usize
+    ensures { λ r. ⌜ Added (now (out .entry)) k (refusedLine n) (now (out .exit)) r ⌝ }
+{
+    let at = add_number(out, k, b"refused ", n as u64);
+    add_word(out, at, b"\n")
+}
+
 // What ends the print of a run: its tally at k, or its refusal alone.
 pub fn add_end(out: &mut [u8], k: usize, r: Ran) -> usize
     ensures { λ n. ⌜ Added (now (out .entry)) (endStart r k) (endOf r) (now (out .exit)) n ⌝ }
 {
     if r.refusal != 0 {
-        let n = add_number(out, 0, b"refused ", r.refusal as u64);
-        return add_word(out, n, b"\n");
+        return add_refused(out, 0, r.refusal);
     }
     let t = r.tally;
     let first = add_number(out, k, b"bytes ", t.bytes as u64);

@@ -1,7 +1,7 @@
 -- Every element is at most n: by places, and what keeps it.
 use mathlib.Core.Path.{_≡_, refl}
 use mathlib.Core.Bool.{true}
-use mathlib.Core.List.{List, [], _∷_, _++_}
+use mathlib.Core.List.{List, [], _∷_, _++_, map}
 use Prim.Native.Nat.{ℕ, zero, suc, _+_, _≤_}
 use native.Mathlib.Omega.{arith}
 use lib.Dec.{leb}
@@ -62,6 +62,14 @@ pub up-to-replicate : (n k x : ℕ) → x ≤ n → allUpTo n (replicate k x) �
 unfolding allUpTo
 up-to-replicate n zero x h = refl
 up-to-replicate n (suc k) x h = rw (le-leb x n h) (up-to-replicate n k x h)
+
+-- each element changed by a rule that keeps it so
+pub map-up-to : (n : ℕ) (f : ℕ → ℕ) → ((x : ℕ) → x ≤ n → f x ≤ n) → (l : List ℕ) → allUpTo n l ≡ true → allUpTo n (map f l) ≡ true
+unfolding allUpTo
+map-up-to n f h [] e = refl
+map-up-to n f h (x ∷ l) e =
+    let p = both (leb x n) (allUpTo n l) e in
+    rw (le-leb (f x) n (h x (leb-true x n (p .0)))) (map-up-to n f h l (p .1))
 
 -- Rows that are moved or cleared stay so ---------------------------------------------------------------------------------------
 

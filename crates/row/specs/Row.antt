@@ -1,4 +1,5 @@
--- Pictures of two lines of 20 places (document 01, The condition), and what moves whole rows.
+-- Pictures of two lines of 20 places (document 01, The condition; document 02, W8: of both devices), what moves whole rows, and
+-- whether one is in range.
 use Prim.Native.Nat.{ℕ, _+_, _-_}
 use mathlib.Core.List.{List, [], _∷_, _++_}
 use mathlib.Core.Bool.{Bool, true, cond, _&&_}

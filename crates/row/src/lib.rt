@@ -1,5 +1,6 @@
 // A picture is two lines of 20 cells, 40 places in one row: 0 to 19 the top line, 20 to 39 the bottom one.
-// What moves whole rows stands here once, for codes, for fonts or marks, and for the bytes of user characters: for both devices.
+// What moves whole rows stands here once, for codes, for fonts or marks, and for the bytes of user characters, of both devices;
+// and whether a row is in range.
 ghost use mathlib.Core.Path.{_≡_};
 ghost use Prim.Native.Nat.{_+_, _-_, _≤_, min};
 ghost use lib.ListN.{length, take, drop, set, replicate};
@@ -38,7 +39,8 @@ fn least(a: usize, b: usize) -> usize
     if a < b { a } else { b }
 }
 
-fn line_start(at: u8) -> usize
+// Column 0 of the line of a place.
+pub fn line_start(at: u8) -> u8
     ensures { λ r. ⌜ (r ≡ lineStart at) × (r ≤ 20) ⌝ }
 {
     if at < 20 { 0 } else { 20 }
@@ -79,7 +81,7 @@ pub fn shift(cells: &mut [u8], at: u8, v: u8)
     if cells.len() != 40 {
         return;
     }
-    let start = line_start(at);
+    let start = line_start(at) as usize;
     pull(cells, start, 1, 19);
     cells[start + 19] = v;
 }
@@ -91,7 +93,7 @@ pub fn clear_line(cells: &mut [u8], at: u8, v: u8)
     if cells.len() != 40 {
         return;
     }
-    let start = line_start(at);
+    let start = line_start(at) as usize;
     clear(&mut cells[start..start + 20], v);
 }
 

@@ -1,29 +1,9 @@
 -- What `show` prints (document 01, Sample program).
-use Prim.Native.Nat.{ℕ, _-_}
-use Prim.Native.Char.{code}
-use mathlib.Core.Bool.{cond}
-use mathlib.Core.List.{List, [], _∷_, _++_}
-use lib.ListN.{length, take, drop, getD}
-use lib.Dec.{eqb}
+use Prim.Native.Nat.{ℕ}
+use mathlib.Core.List.{List, _++_}
 use Rattle.condition.specs.declared.Condition.{Condition}
 use Rattle.interpreter.specs.declared.Ran.{Ran}
-use Rattle.lines.specs.Lines.{text, each, hexOf, numbered, newLine, printOf}
-
--- what follows the code at i of n codes: one space between, a new line at the end
-unfoldable pub separatorOf : ℕ → ℕ → ℕ
-separatorOf i n = cond (eqb (n - i) 1) (code "\n") (code " ")
-
--- the code at i in two-digit hex, and what follows it
-unfoldable pub codeText : List ℕ → ℕ → List ℕ
-codeText codes i = hexOf (getD codes i 0) ++ separatorOf i (length codes) ∷ []
-
--- codes in two-digit hex with one space between, then a new line
-unfoldable pub hexLine : List ℕ → List ℕ
-hexLine codes = each (codeText codes) (length codes)
-
--- codes by line
-unfoldable pub cellLines : List ℕ → List ℕ
-cellLines codes = hexLine (take 20 codes) ++ hexLine (drop 20 codes)
+use Rattle.lines.specs.Lines.{text, numbered, newLine, cellLines, printOf}
 
 -- in decimal cursor, mode, selected font: `cursor C mode M font F`
 unfoldable pub placeLine : Condition → List ℕ

@@ -1,45 +1,12 @@
 // Runs standard input from power-up font 0 with a zero tally, and prints the codes, the cursor and the tally.
 ghost use mathlib.Core.Path.{_≡_};
-ghost use Prim.Native.Nat.{_≤_, _<_};
+ghost use Prim.Native.Nat.{_≤_};
 ghost use lib.ListN.{length, take};
 ghost use Rattle.lines.specs.Lines.{Added, runFromStart};
-ghost use Rattle.show.specs.Report.{separatorOf, hexLine, cellLines, placeLine, shownOf};
+ghost use Rattle.show.specs.Report.{placeLine, shownOf};
 use condition::Condition;
 use interpreter::Ran;
 use interpreter::Tally;
-
-// What follows the code at i of n codes: a space, or a new line after the last.
-fn separator(i: usize, n: usize) -> u8
-    requires { ⌜ i < n ⌝ }
-    ensures { λ r. ⌜ r ≡ separatorOf i n ⌝ }
-{
-    if n - i == 1 { b'\n' } else { b' ' }
-}
-
-// The codes in hex with one space between come at k, and a new line.
-fn add_codes(out: &mut [u8], k: usize, codes: &[u8]) -> usize
-    ensures { λ r. ⌜ Added (now (out .entry)) k (hexLine (now (codes .entry))) (now (out .exit)) r ⌝ }
-{
-    let mut at = k;
-    let mut i: usize = 0;
-    while i < codes.len() {
-        let next = lines::add_hex(out, at, b"", codes[i]);
-        let gap = [separator(i, codes.len())];
-        at = lines::add_word(out, next, &gap);
-        i += 1;
-    }
-    at
-}
-
-// The codes by line.
-fn add_cells(out: &mut [u8], k: usize, codes: &[u8]) -> usize
-    requires { ⌜ length (now codes) ≡ 40 ⌝ }
-    ensures { λ r. ⌜ Added (now (out .entry)) k (cellLines (now (codes .entry))) (now (out .exit)) r ⌝ }
-{
-    let line = Condition::COLUMNS as usize;
-    let at = add_codes(out, k, &codes[..line]);
-    add_codes(out, at, &codes[line..])
-}
 
 fn add_place(out: &mut [u8], k: usize, c: Condition) -> usize
     ensures { λ r. ⌜ Added (now (out .entry)) k (placeLine c) (now (out .exit)) r ⌝ }
@@ -57,7 +24,7 @@ fn add_shown(out: &mut [u8], r: Ran) -> usize
 {
     let c = r.condition;
     let codes = c.codes;
-    let a = add_cells(out, 0, &codes);
+    let a = lines::add_cells(out, 0, codes);
     let b = add_place(out, a, c);
     lines::add_end(out, b, r)
 }

@@ -6,15 +6,15 @@ use Prim.Native.Nat.{ℕ, zero, suc, _<_, _≤_, _+_, _-_, _*_}
 use native.Mathlib.Nat.{add-zero}
 use native.Mathlib.Omega.{arith}
 use lib.Dec.{ltb, leb, eqb}
-use lib.ListN.{getD, set, drop}
+use lib.ListN.{getD, set, drop, replicate}
 use lib.Seq.{getD-drop, drop-drop, drop-set-lt}
-use borrow.Author.Tests.{ltb-true, eqb-false, not-true, lt-ltb, le-leb, ne-eqb}
+use borrow.Author.Tests.{ltb-true, eqb-false, not-true, lt-ltb, le-leb, leb-true, ne-eqb}
 use Rattle.laws.proofs.Tests.{both, by-cases, clash}
 use Rattle.row.specs.Row.{allUpTo}
 use Rattle.row.proofs.Ranges.{up-to-at, at-up-to, up-to-drop}
 use Rattle.users.specs.declared.Users.{Users}
 use Rattle.users.specs.Users.{roomOf, isFound, isUser, foundIn, defineOf, absent, placesFormed, usersFormed, heldFormed}
-use Rattle.users.proofs.Places.{Places, New, not-user, new-not-user, define-places}
+use Rattle.users.proofs.Places.{Places, not-user, new-not-user, define-places, define-most, define-length}
 
 -- the places after the first
 after : (l : List ℕ) (i k : ℕ) → 6 + i ≡ k → getD (drop 6 l) i 0 ≡ getD l k 0
@@ -70,7 +70,8 @@ places bound zero l e =
 places bound (suc n) l e =
     let p = both (ltb (getD l 5 0) bound) (absent (getD l 0 0) n (drop 6 l) && placesFormed bound n (drop 6 l)) e in
     let q = both (absent (getD l 0 0) n (drop 6 l)) (placesFormed bound n (drop 6 l)) (p .1) in
-    more bound n l (ltb-true (getD l 5 0) bound (p .0)) (absent-at (getD l 0 0) n (drop 6 l) (q .0)) (places bound n (drop 6 l) (q .1))
+    more bound n l (ltb-true (getD l 5 0) bound (p .0)) (absent-at (getD l 0 0) n (drop 6 l) (q .0)) (places bound n (drop 6 l)
+    (q .1))
 
 pub places-formed : (bound n : ℕ) (l : List ℕ) → Places bound n l → placesFormed bound n l ≡ true
 unfolding placesFormed
@@ -98,6 +99,19 @@ define-formed bound u code held last r l low e =
     places-formed bound (defineOf u code held last .count) (defineOf u code held last .bytes)
     (define-places bound u code l (places bound (u .count) (u .bytes) e) held last r low)
 
+pub define-users-formed : (bound : ℕ) (u : Users) (code : ℕ) (held : List ℕ) (last : ℕ) → 0 < roomOf (u .bytes) → last < bound
+    → usersFormed bound (u .bytes) (u .count) ≡ true
+    → usersFormed bound (defineOf u code held last .bytes) (defineOf u code held last .count) ≡ true
+unfolding usersFormed roomOf
+define-users-formed bound u code held last r low e =
+    let p = both (leb (u .count) (roomOf (u .bytes))) (placesFormed bound (u .count) (u .bytes)) e in
+    rw (
+      define-length u code held last r,
+      le-leb (defineOf u code held last .count) (roomOf (u .bytes))
+          (define-most u code held last r),
+    )
+    (define-formed bound u code held last r (leb-true (u .count) (roomOf (u .bytes)) (p .0)) low (p .1))
+
 -- the lookup finds no code that stands in none of the places, and every other
 pub absent-unfound : (us : List ℕ) (count x : ℕ) → count ≤ roomOf us → not (isFound (foundIn us count x)) ≡ absent x count us
 unfolding isUser
@@ -124,7 +138,11 @@ places-step bound left s at h =
     let e : left ≡ suc (left - 1) = omega arith in
     ap (λ (n : ℕ). placesFormed bound n (drop at s)) e ∙ simp (getD-drop, add-zero, drop-drop)
 
--- the held bytes from the next one up are 0
+-- where nothing is held; and with one byte more the held bytes from the next one up are 0
+pub none-held : heldFormed 0 (replicate 4 0) ≡ true
+unfolding heldFormed allUpTo
+none-held = refl
+
 pub next-held : (h : List ℕ) (n d : ℕ) → n < 4 → heldFormed n h ≡ true → heldFormed (n + 1) (set h n d) ≡ true
 unfolding heldFormed
 next-held h n d l e =

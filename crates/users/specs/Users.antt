@@ -1,5 +1,5 @@
--- User characters (document 01, The condition): code and five bytes, oldest first, in places of six bytes, as many as the bytes
--- have room for: 16 in a condition.
+-- User characters (document 01, The condition; document 02, W3, W8): code and five bytes, oldest first, in places of six bytes, as
+-- many as the bytes have room for: 16 in a condition, eight in that of the lounge module.
 use Prim.Native.Nat.{ℕ, zero, suc, _+_, _-_, _*_, _/_, min}
 use mathlib.Core.List.{List, [], _∷_, _++_}
 use mathlib.Core.Bool.{Bool, true, false, cond, not, _&&_}
@@ -106,7 +106,8 @@ unfoldable pub defineIn : List ℕ → ℕ → ℕ → List ℕ → ℕ → User
 defineIn us count code held last =
     cond (ltb (length us) 6) (usersIn us count) (defineOf (usersIn us count) code held last)
 
--- Well formed: no code twice, each fifth byte in range, every unused place 0 -------------------------------------------------------
+-- Well formed: no code twice, each fifth byte in range, every unused place 0
+-- -------------------------------------------------------
 
 -- the code x stands in none of the first n places of six bytes
 unfoldable pub absent : ℕ → ℕ → List ℕ → Bool
@@ -119,9 +120,9 @@ placesFormed bound zero l = allUpTo 0 l
 placesFormed bound (suc n) l =
     ltb (getD l 5 0) bound && (absent (getD l 0 0) n (drop 6 l) && placesFormed bound n (drop 6 l))
 
--- the same of any bytes: more than there are places for are never formed
+-- the same of any bytes: more than there is room for are never formed
 unfoldable pub usersFormed : ℕ → List ℕ → ℕ → Bool
-usersFormed bound us count = leb count (length us / 6) && placesFormed bound count us
+usersFormed bound us count = leb count (roomOf us) && placesFormed bound count us
 
 -- 0 to 4 bytes are held of a user character that is being received, and the held bytes from the count up are 0
 unfoldable pub heldFormed : ℕ → List ℕ → Bool

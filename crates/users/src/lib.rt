@@ -178,12 +178,12 @@ fn is_absent(x: u8, n: usize, s: &[u8]) -> bool
 }
 
 // No code stands twice in the first `count` places, each fifth byte is below the bound, and the other places are 0. More than
-// there are places for are never formed.
+// there is room for are never formed.
 pub fn are_formed(bytes: &[u8], count: u8, bound: u8) -> bool
     ensures { λ r. ⌜ r ≡ usersFormed bound (now (bytes .entry)) count ⌝ }
 {
     let mut left = count as usize;
-    if bytes.len() / Users::PLACE < left {
+    if room(bytes) < left {
         return false;
     }
     let mut at = 0;

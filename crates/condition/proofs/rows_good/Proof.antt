@@ -1,7 +1,7 @@
 use borrow.Author.Tests.{eq-eqb, ne-eqb, le-leb, lt-leb}
 use borrow.Author.Needs.{needs}
 use mathlib.Core.Path.{_≡_}
-use Prim.Native.Nat.{_/_}
+use Prim.Native.Nat.{_/_, min}
 use native.Mathlib.Omega.{arith}
 use lib.ListN.{length}
 use Rattle.users.specs.Users.{roomOf, usersFormed}
@@ -62,7 +62,7 @@ returns-5 c =
     rw (c .is-found .ensures, c .before .find .ensures, i .is-idle .ensures, h .held-formed .ensures, h .before .held-of .ensures)
     (rw (f .are-formed .ensures, f .before .up-to .ensures, absent-unfound (a .users .now) (a .count) 0x1B (omega arith))
     (rw (eq-eqb _ _ (t .before .before .before .if1 .left), eq-eqb _ _ sized)
-    (rw (eq-eqb _ _ (t .before .if3 .left), le-leb _ _ l, le-leb (a .count) (length (a .users .now) / 6) (omega arith)))))
+    (rw (eq-eqb _ _ (t .before .if3 .left), le-leb _ _ l, le-leb (a .count) (min 255 (length (a .users .now) / 6)) (omega arith)))))
 
 pub rows-good-spec : {M : Type 1} → statement M
 rows-good-spec =

@@ -1,9 +1,19 @@
-use Rattle.lines.specs.Lines.{endStart, endOf, tallyLine, refusedLine}
+use Rattle.lines.specs.Lines.{endStart, endOf, tallyLine}
 use Rattle.lines.proofs.Laws.{both-added}
 use borrow.Author.Tests.{eq-eqb, ne-eqb}
 use borrow.Author.Needs.{needs}
 use Rattle.lines.proofs.add_end.Statement.{statement}
 use Rattle.lines.proofs.add_end.Tie as tie
+
+add-refused-requires : tie.Need-add-refused-requires
+add-refused-requires c κs = search needs
+
+same-length : tie.Need-same-length
+same-length c = search needs
+
+returns : tie.Need-returns
+unfolding endStart endOf
+returns c = rw (ne-eqb _ _ (c .before .before .before .before .if1 .taken)) (c .before .before .add-refused .ensures)
 
 slice-aggregate-add-number : tie.Need-slice-aggregate-add-number
 slice-aggregate-add-number c = search needs
@@ -13,22 +23,6 @@ cast-add-number c = search needs
 
 add-number-requires : tie.Need-add-number-requires
 add-number-requires c κs = search needs
-
-slice-aggregate-add-word : tie.Need-slice-aggregate-add-word
-slice-aggregate-add-word c = search needs
-
-add-word-requires : tie.Need-add-word-requires
-add-word-requires c κs = search needs
-
-same-length : tie.Need-same-length
-same-length c = search needs
-
-returns : tie.Need-returns
-unfolding endStart endOf refusedLine
-returns c =
-    let n = c .before .before .before .before .before .before .before in
-    rw (ne-eqb _ _ (n .before .before .before .before .if1 .taken))
-    (both-added (n .add-number .ensures) (c .before .before .add-word .ensures))
 
 slice-aggregate-add-number-2 : tie.Need-slice-aggregate-add-number-2
 slice-aggregate-add-number-2 c = search needs
@@ -57,20 +51,11 @@ cast-add-number-4 c = search needs
 add-number-requires-4 : tie.Need-add-number-requires-4
 add-number-requires-4 c κs = search needs
 
-slice-aggregate-add-number-5 : tie.Need-slice-aggregate-add-number-5
-slice-aggregate-add-number-5 c = search needs
+slice-aggregate-add-word : tie.Need-slice-aggregate-add-word
+slice-aggregate-add-word c = search needs
 
-cast-add-number-5 : tie.Need-cast-add-number-5
-cast-add-number-5 c = search needs
-
-add-number-requires-5 : tie.Need-add-number-requires-5
-add-number-requires-5 c κs = search needs
-
-slice-aggregate-add-word-2 : tie.Need-slice-aggregate-add-word-2
-slice-aggregate-add-word-2 c = search needs
-
-add-word-requires-2 : tie.Need-add-word-requires-2
-add-word-requires-2 c κs = search needs
+add-word-requires : tie.Need-add-word-requires
+add-word-requires c κs = search needs
 
 same-length-2 : tie.Need-same-length-2
 same-length-2 c = search needs
@@ -83,21 +68,20 @@ returns-2 c =
     let t = f .before .before .before .before .before .before in
     let b = t .before .before .before .before .before .before in
     rw (eq-eqb _ _ (b .before .before .before .before .before .if1 .left))
-    (both-added (b .add-number2 .ensures)
-    (both-added (t .add-number3 .ensures)
-    (both-added (f .add-number4 .ensures) (both-added (w .add-number5 .ensures) (c .before .before .add-word2 .ensures)))))
+    (both-added (b .add-number .ensures)
+    (both-added (t .add-number2 .ensures)
+    (both-added (f .add-number3 .ensures) (both-added (w .add-number4 .ensures) (c .before .before .add-word .ensures)))))
 
 pub add-end-spec : {M : Type 1} → statement M
 add-end-spec =
     tie.close
     (tie.spec
+    add-refused-requires
+    same-length
+    returns
     slice-aggregate-add-number
     cast-add-number
     add-number-requires
-    slice-aggregate-add-word
-    add-word-requires
-    same-length
-    returns
     slice-aggregate-add-number-2
     cast-add-number-2
     add-number-requires-2
@@ -107,10 +91,7 @@ add-end-spec =
     slice-aggregate-add-number-4
     cast-add-number-4
     add-number-requires-4
-    slice-aggregate-add-number-5
-    cast-add-number-5
-    add-number-requires-5
-    slice-aggregate-add-word-2
-    add-word-requires-2
+    slice-aggregate-add-word
+    add-word-requires
     same-length-2
     returns-2)

@@ -1,4 +1,4 @@
-use mathlib.Core.Path.{_≡_, _∙_, sym}
+use mathlib.Core.Path.{_≡_}
 use lib.ListN.{length}
 use borrow.Author.Tests.{ne-eqb}
 use Rattle.row.specs.Row.{onPicture, clearedLine, lineStart}
@@ -13,6 +13,9 @@ returns c = rw (ne-eqb _ _ (c .if1 .taken))
 
 line-start-requires : tie.Need-line-start-requires
 line-start-requires c κs = search needs
+
+cast-start : tie.Need-cast-start
+cast-start c = search needs
 
 add-clear : tie.Need-add-clear
 add-clear c = search needs
@@ -46,6 +49,7 @@ clear-line-spec =
     (tie.spec
     returns
     line-start-requires
+    cast-start
     add-clear
     sub-clear
     part-clear-start

@@ -14,6 +14,9 @@ returns c = rw (ne-eqb _ _ (c .if1 .taken))
 line-start-requires : tie.Need-line-start-requires
 line-start-requires c κs = search needs
 
+cast-start : tie.Need-cast-start
+cast-start c = search needs
+
 pull-requires : tie.Need-pull-requires
 pull-requires c κs = search needs
 
@@ -40,6 +43,7 @@ shift-spec =
     (tie.spec
     returns
     line-start-requires
+    cast-start
     pull-requires
     add-cells
     slice-write-cells

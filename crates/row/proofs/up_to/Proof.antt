@@ -1,14 +1,15 @@
-use mathlib.Core.Path.{_≡_, refl, sym, _∙_}
+use mathlib.Core.Path.{_≡_, sym, _∙_}
 use mathlib.Core.Logic.{_⊎_, inl, inr, ⊎-elim}
-use mathlib.Core.Bool.{Bool, true, false, _&&_, and-false, and-true}
+use mathlib.Core.Bool.{_&&_, and-true}
 use mathlib.Core.List.{List}
-use Prim.Native.Nat.{ℕ, suc, _+_, _-_, _<_, _≤_}
+use Prim.Native.Nat.{ℕ, _+_, _-_, _<_, _≤_}
 use native.Mathlib.Numerals.{add-one}
 use native.Mathlib.Omega.{arith}
 use lib.Dec.{leb}
 use lib.ListN.{length, getD, drop, drop-of-length-le}
 use lib.Seq.{drop-cons}
-use borrow.Author.Tests.{le-leb, lt-leb, leb-true, leb-false}
+use borrow.Author.Tests.{le-leb}
+use Rattle.laws.proofs.Tests.{most-of}
 use Rattle.row.specs.Row.{allUpTo}
 use Rattle.row.proofs.up_to.Statement.{statement}
 use Rattle.row.proofs.up_to.Tie as tie
@@ -17,19 +18,7 @@ use Rattle.row.proofs.up_to.Tie as tie
 turned : (n : ℕ) (s : List ℕ) (i m k : ℕ) → i < length s → m ≤ k → getD s i 0 ≤ k → (k ≡ m) ⊎ (k ≡ getD s i 0)
     → (leb m n && allUpTo n (drop i s)) ≡ (leb k n && allUpTo n (drop (i + 1) s))
 unfolding allUpTo
-turned n s i m k h hm hx hk = rw (add-one i, drop-cons s i 0 h) (go (leb k n) refl)
-  where
-    go : (t : Bool) → leb k n ≡ t
-        → (leb m n && (leb (getD s i 0) n && allUpTo n (drop (suc i) s))) ≡ (t && allUpTo n (drop (suc i) s))
-    go true e =
-        let l : k ≤ n = leb-true k n e in
-        let a : m ≤ n = omega arith in
-        let b : getD s i 0 ≤ n = omega arith in
-        rw (le-leb m n a, le-leb (getD s i 0) n b)
-    go false e =
-        let l : n < k = omega (arith, leb-false k n e) in
-        ⊎-elim (λ (f : k ≡ m). let a : n < m = omega arith in rw (lt-leb m n a))
-        (λ (f : k ≡ getD s i 0). let a : n < getD s i 0 = omega arith in rw (lt-leb (getD s i 0) n a) (and-false (leb m n))) hk
+turned n s i m k h hm hx hk = rw (add-one i, drop-cons s i 0 h) (most-of n m (getD s i 0) k _ hm hx hk)
 
 ended : (n : ℕ) (s : List ℕ) (i m : ℕ) → length s ≤ i → (leb m n && allUpTo n (drop i s)) ≡ leb m n
 unfolding allUpTo

@@ -1,13 +1,14 @@
-use mathlib.Core.Path.{_≡_, refl, sym, ap, _∙_}
+use mathlib.Core.Path.{_≡_, sym, ap, _∙_}
 use mathlib.Core.Bool.{true, false, and-false}
 use Prim.Native.Nat.{_+_, _*_, _-_, _≤_}
 use native.Mathlib.Omega.{arith}
 use lib.Dec.{ltb}
 use lib.ListN.{length, getD, drop, length-drop}
 use borrow.Author.Tests.{lt-ltb, le-ltb, le-leb, lt-leb, not-true, not-false}
+use borrow.Author.Needs.{needs}
 use Rattle.laws.proofs.Lists.{tail-part}
 use Rattle.row.specs.Row.{allUpTo}
-use Rattle.users.specs.Users.{absent, placesFormed, usersFormed}
+use Rattle.users.specs.Users.{absent, roomOf, placesFormed, usersFormed}
 use Rattle.users.proofs.Formed.{places-step}
 use Rattle.users.proofs.are_formed.Statement.{statement}
 use Rattle.users.proofs.are_formed.Tie as tie
@@ -19,13 +20,18 @@ Inv-loop s count bound left₀ at₀ left at =
 abbrev μ-loop : tie.MeasureT-loop
 μ-loop s count bound left₀ at₀ left at = left
 
+room-requires : tie.Need-room-requires Inv-loop μ-loop
+room-requires c κs = search needs
+
 returns : tie.Need-returns Inv-loop μ-loop
 unfolding usersFormed
-returns c = rw (lt-leb _ _ (c .if1 .taken))
+returns c = rw (lt-leb _ _ (rw (c .before .room .ensures) at (c .if1 .taken)))
 
 loop-holds : tie.Need-loop-holds Inv-loop μ-loop
-unfolding usersFormed
-loop-holds c = (rw (le-leb _ _ (c .if1 .left)), omega (arith, c .if1 .left), omega arith)
+unfolding usersFormed roomOf
+loop-holds c =
+    let l = rw (c .before .room .ensures) at (c .if1 .left) in
+    (rw (le-leb _ _ l), omega (arith, l), omega arith)
 
 shared-slice-read-x : tie.Need-shared-slice-read-x Inv-loop μ-loop
 shared-slice-read-x c = omega arith
@@ -44,7 +50,7 @@ add-at c = omega arith
 
 returns-2 : tie.Need-returns-2 Inv-loop μ-loop
 returns-2 c =
-    let a = c .before .before .before .before .before .before .before .args in
+    let a = c .before .before .before .before .before .before .before .before .args in
     let l = c .before .before .before .before .loop in
     let high = le-ltb (getD (a .bytes .now) (l .at + 5) 0) (a .bound) (omega (arith, c .if2 .taken)) in
     sym (l .inv .0 ∙ places-step (a .bound) (l .left) (a .bytes .now) (l .at) (omega arith) ∙ rw high)
@@ -60,13 +66,13 @@ part-is-absent-end c = omega arith
 
 is-absent-requires : tie.Need-is-absent-requires Inv-loop μ-loop
 is-absent-requires c κs =
-    let a = c .before .before .before .before .before .before .before .before .args in
+    let a = c .before .before .before .before .before .before .before .before .before .args in
     let l = c .before .before .before .before .before .loop in
     rw (tail-part (a .bytes .now) (l .at + 6), length-drop) (omega arith)
 
 returns-3 : tie.Need-returns-3 Inv-loop μ-loop
 returns-3 c =
-    let a = c .before .before .before .before .before .before .before .before .before .before .args in
+    let a = c .before .before .before .before .before .before .before .before .before .before .before .args in
     let l = c .before .before .before .before .before .before .before .loop in
     let s = a .bytes .now in
     let gone : absent (getD s (l .at) 0) (l .left - 1) (drop (l .at + 6) s) ≡ false =
@@ -79,7 +85,7 @@ loop-less c = omega arith
 
 loop-again : tie.Need-loop-again Inv-loop μ-loop
 loop-again c =
-    let a = c .before .before .before .before .before .before .before .before .before .before .args in
+    let a = c .before .before .before .before .before .before .before .before .before .before .before .args in
     let l = c .before .before .before .before .before .before .before .loop in
     let s = a .bytes .now in
     let there : absent (getD s (l .at) 0) (l .left - 1) (drop (l .at + 6) s) ≡ true =
@@ -102,7 +108,7 @@ up-to-requires c κs = tt
 returns-4 : tie.Need-returns-4 Inv-loop μ-loop
 unfolding placesFormed
 returns-4 c =
-    let a = c .before .before .before .before .before .before .args in
+    let a = c .before .before .before .before .before .before .before .args in
     let l = c .before .before .before .loop in
     let z : l .left ≡ 0 = omega arith in
     c .up-to .ensures ∙ ap (allUpTo 0) (tail-part (a .bytes .now) (l .at)) ∙ sym (l .inv .0 ∙ rw z)
@@ -113,6 +119,7 @@ are-formed-spec =
     (tie.spec
     Inv-loop
     μ-loop
+    room-requires
     returns
     loop-holds
     shared-slice-read-x

@@ -2,12 +2,12 @@ use Prim.Native.Nat.{_≤_, _-_}
 use mathlib.Core.Path.{_≡_}
 use native.Mathlib.Omega.{arith}
 use lib.ListN.{length}
 use Rattle.lines.specs.Lines.{Added, each}
 use Rattle.lines.proofs.Laws.{none-added, both-added, each-added, same-added}
-use Rattle.show.specs.Report.{codeText, hexLine}
+use Rattle.lines.specs.Lines.{codeText, hexLine}
 use borrow.Author.Needs.{needs}
-use Rattle.show.proofs.add_codes.Statement.{statement}
-use Rattle.show.proofs.add_codes.Tie as tie
+use Rattle.lines.proofs.add_codes.Statement.{statement}
+use Rattle.lines.proofs.add_codes.Tie as tie
 
 abbrev Inv-loop : tie.InvT-loop
 Inv-loop out₀ k codes at₀ i₀ t8 out at i = (i ≤ length codes) × Added out₀ k (each (codeText codes) i) out at

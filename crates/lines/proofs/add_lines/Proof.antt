@@ -1,14 +1,11 @@
 use mathlib.Core.Path.{sym}
 use lib.Seq.{length-take-le}
 use Rattle.laws.proofs.Lists.{tail-part}
 use Rattle.lines.proofs.Laws.{both-added}
-use Rattle.show.specs.Report.{cellLines}
+use Rattle.lines.specs.Lines.{cellLines}
 use borrow.Author.Needs.{needs}
-use Rattle.show.proofs.add_cells.Statement.{statement}
-use Rattle.show.proofs.add_cells.Tie as tie
-
-cast-line : tie.Need-cast-line
-cast-line c = search needs
+use Rattle.lines.proofs.add_lines.Statement.{statement}
+use Rattle.lines.proofs.add_lines.Tie as tie
 
 slice-aggregate-add-codes : tie.Need-slice-aggregate-add-codes
 slice-aggregate-add-codes c = sym (length-take-le 20 (c .before .before .before .before .args .codes .now) (search needs))
@@ -38,11 +35,10 @@ returns c =
     let codes = t .before .before .before .before .before .args .codes .now in
     both-added (t .add-codes .ensures) (rw (tail-part codes 20) at (c .before .before .add-codes2 .ensures))
 
-pub add-cells-spec : {M : Type 1} → statement M
-add-cells-spec =
+pub add-lines-spec : {M : Type 1} → statement M
+add-lines-spec =
     tie.close
     (tie.spec
-    cast-line
     slice-aggregate-add-codes
     add-codes-requires
     sub-add-codes

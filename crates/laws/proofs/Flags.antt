@@ -5,7 +5,7 @@ use mathlib.Core.Bool.{Bool, true, false}
 use native.Mathlib.Omega.{arith}
 use lib.Dec.{eqb, leb}
 use borrow.Author.Tests.{leb-true}
-use Rattle.condition.specs.Condition.{flag}
+use Rattle.laws.specs.Flags.{flag}
 
 pub flag-most : (t : Bool) → flag t ≤ 1
 flag-most true = omega arith

@@ -1,8 +1,8 @@
-use Rattle.show.specs.Report.{separatorOf}
+use Rattle.lines.specs.Lines.{separatorOf}
 use borrow.Author.Tests.{eq-eqb, ne-eqb}
 use borrow.Author.Needs.{needs}
-use Rattle.show.proofs.separator.Statement.{statement}
-use Rattle.show.proofs.separator.Tie as tie
+use Rattle.lines.proofs.separator.Statement.{statement}
+use Rattle.lines.proofs.separator.Tie as tie
 
 sub-if1 : tie.Need-sub-if1
 sub-if1 c = search needs
