@@ -13,12 +13,13 @@ MAKEFLAGS += -r
 lib: $(LIB)             ## the library for C, target/staticlib/libsign.a (this is what make alone does)
 show: target/bin/show   ## the sample program, target/bin/show
 tell: target/bin/tell   ## the technician's program, target/bin/tell
+show_lounge: target/bin/show_lounge    ## the sample program of the old lounge module, target/bin/show_lounge
 
 $(LIB): $(SOURCES)
 	rt staticlib sign
 
 # rt leaves a program as it is where nothing but times changed, and does not make one anew that was removed.
-target/bin/show target/bin/tell: $(SOURCES)
+target/bin/show target/bin/tell target/bin/show_lounge: $(SOURCES)
 	@test -e $@ || rm -f target/stamp/$(@F)
 	rt check $(@F)
 	@touch -c $@
@@ -46,9 +47,9 @@ clean:    ## removes target/ with all that was proved and built
 	rm -rf target
 
 help:    ## this list
-	@awk -F ':.*## ' '/^[a-z]+:.*## / { printf "make %-10s %s\n", $$1, $$2 }' Makefile
+	@awk -F ':.*## ' '/^[a-z_]+:.*## / { printf "make %-11s %s\n", $$1, $$2 }' Makefile
 
 # Two provers at once would write the same files; rt uses the cores by itself.
 .NOTPARALLEL:
 .DELETE_ON_ERROR:
-.PHONY: lib show tell demo test install uninstall clean help
+.PHONY: lib show tell show_lounge demo test install uninstall clean help

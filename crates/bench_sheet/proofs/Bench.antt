@@ -85,7 +85,8 @@ fonts-bench = ((refl, refl), ((refl, refl), ((refl, refl), tt)))
 -- and the cases that may start from a clear
 pub clear-bench : AllHold clearSheet
 unfolding powerUp runOf stepAt isChar isUser foundIn limitOf roomOf writeOf rightOf controlOf escapeOf dataOf defineOf removed
-    without withYoungest putOf clearOf wellFormed numbersGood scrollGood allUpTo placesFormed absent heldFormed escapeGood wrong left
+    without withYoungest putOf clearOf wellFormed numbersGood scrollGood allUpTo placesFormed absent heldFormed escapeGood wrong
+    left
     next down move near1 near2 dist lineStart leaves firstByte pathOf path flagged planOf plan wrongFor switch fontsPlanOf fontsPlan
     clearWins eitherBy onMove onSwitch lacks someLacks refusalBy planRefusal fontsRefusal
 clear-bench = ((refl, refl), ((refl, refl), ((refl, refl), ((refl, refl), ((refl, refl), ((refl, refl), tt))))))

@@ -5,3 +5,4 @@ pub mod TallySheet
 pub mod ReelSheet
 pub mod RecoverySheet
 pub mod MoveSheet
+pub mod LoungeSheet
