@@ -3,7 +3,7 @@
 # - a line of an *.md above 100 characters; table rows, fenced code and a link at the line's end aside;
 # - a line of an *.antt above 132 characters;
 # - a relative link of an *.md that leads nowhere;
-# - in docs/PROMISES.md, MODULE.md and DECISIONS.md a path in backticks that is not there, below crates/ or
+# - in docs/PROMISES.md, MODULE.md, LOUNGE.md and DECISIONS.md a path in backticks that is not there, below crates/ or
 #   here, or a name behind it, `path: name, name`, that the file does not define. In a section with a line
 #   "Definitions: `path`" each name in backticks is one of that file;
 # - a place in a block that include/sign.h names and the table of docs/HOST.md does not have;
@@ -66,7 +66,7 @@ dead_links() {
 }
 
 # Each reference as: place path name, or place path where no name is given
-referring='docs/PROMISES.md docs/MODULE.md docs/DECISIONS.md'
+referring='docs/PROMISES.md docs/MODULE.md docs/LOUNGE.md docs/DECISIONS.md'
 references() {
     printf '%s\n' $referring | on_pages '
         /^#/ { section = "" }

@@ -1,6 +1,6 @@
 #!/bin/sh
 # Builds and runs one test, or a measure: tests/run.sh NAME. See tests/README.md. The gate runs these:
-tests='docs wrong self show tell host questions plans fonts reels recovery alike c-host example dump station install stack'
+tests='docs wrong self show tell show_lounge host questions plans fonts reels recovery lounge alike c-host example dump station install stack'
 set -eu
 cd "$(dirname "$0")/.."
 case ${1:-} in
@@ -14,8 +14,11 @@ mkdir -p "$out"
 # The Makefile knows when a product is older than its sources. (Its own options, as -j, are not for this one.)
 program() { MAKEFLAGS='' make -s "$1"; }
 library() { MAKEFLAGS='' make -s lib; }
+# The entry of the old lounge module is for the tests alone, and make does not know it: rt sees whether it is current.
+entry() { rt staticlib lounge_entry >"$out/lounge_entry.log" 2>&1 || { cat "$out/lounge_entry.log" >&2; exit 1; }; }
 
-# alone NAME: a test program of this machine; linked NAME WORDS: one that is linked with libsign.a
+# alone NAME: a test program of this machine; linked NAME WORDS: one that is linked with libsign.a; entered NAME WORDS:
+# one that is linked with liblounge_entry.a
 alone() {
     need rust
     $OWN_RUSTC --edition 2021 -O -C overflow-checks=on -o "$out/$1" "tests/independent/$1.rs"
@@ -23,9 +26,18 @@ alone() {
 linked() {
     need rust
     library
-    name=$1
-    shift
-    $RUSTC --edition 2021 -O "$@" -L native=target/staticlib -l static=sign -o "$out/$name" "tests/independent/$name.rs"
+    linked_with sign "$@"
+}
+entered() {
+    need rust
+    entry
+    linked_with lounge_entry "$@"
+}
+linked_with() { # LIBRARY NAME WORDS
+    lib=$1
+    name=$2
+    shift 2
+    $RUSTC --edition 2021 -O "$@" -L native=target/staticlib -l "static=$lib" -o "$out/$name" "tests/independent/$name.rs"
 }
 c_program() { # NAME FILE
     need c
@@ -61,33 +73,54 @@ count() {
     perf) perf stat -x, -e instructions:u "$@" 2>&1 >/dev/null | sed -n 's/,.*instructions.*//p' ;;
     esac
 }
-# each WHO WHAT: instructions for each input byte, times 100
+# each PROGRAM WHO WHAT: instructions for each input byte, or pair, times 100
 each() {
-    four=$(count "$out/speed" "$1" "$2" 4)
-    none=$(count "$out/speed" "$1" "$2" 0)
+    four=$(count "$out/$1" "$2" "$3" 4)
+    none=$(count "$out/$1" "$2" "$3" 0)
     case $four$none in '' | *[!0-9]*) echo "speed: the count failed" >&2; exit 1 ;; esac
     echo $(((four - none) * 100 / 4 / 32768))
 }
 decimal() { printf '%d.%02d' $(($1 / 100)) $(($1 % 100)); }
+# beside PROGRAM WHO NAME: two lines, the independent interpreter and the product on the two inputs of the program
+beside() {
+    for what in printable mixed; do
+        own=$(each "$1" own "$what")
+        product=$(each "$1" "$2" "$what")
+        ratio=$(decimal $(((product * 100 + own / 2) / own)))
+        echo "speed: $what: independent Rust $(decimal "$own"), $3 $(decimal "$product"), ratio $ratio"
+    done
+}
 
 case ${1:-} in
 self)
     alone self
     "$out/self"
     ;;
-show | tell)
+show | tell | show_lounge)
     program "$1"
     alone "$1"
     # shellcheck disable=SC2086
     "$out/$1" $RUN "target/bin/$1"
+    # what docs/LOUNGE.md shows of the sample, and of its line with printf
+    if [ "$1" = show_lounge ]; then
+        fence docs/LOUNGE.md lounge | diff - crates/show_lounge/stdout
+        line=$(sed -n "s/^    \(printf .*\) | target.bin.show_lounge .*/\1/p" docs/LOUNGE.md)
+        [ "$(eval "$line" | $RUN target/bin/show_lounge | cut -c 1-5 | head -n 2)" = "$(printf '48 31\n21 20')" ]
+    fi
     ;;
 host | questions | plans | fonts | reels | recovery)
     linked "$1" -C overflow-checks=on
     $RUN "$out/$1"
     ;;
+lounge)
+    entered lounge -C overflow-checks=on
+    $RUN "$out/lounge"
+    ;;
 alike)
     linked speed
     $RUN "$out/speed" check
+    entered lounge_speed
+    $RUN "$out/lounge_speed" check
     ;;
 c-host)
     c_program c-host tests/host.c
@@ -166,11 +199,11 @@ speed)
     $RUN "$out/speed" check
     choose_counter "$out/speed" own printable 0
     echo "speed: instructions for each input byte, from power-up on 32,768 bytes, counted by $counter on $(uname -m), $($RUSTC --version)"
-    for what in printable mixed; do
-        own=$(each own "$what")
-        sign=$(each sign "$what")
-        echo "speed: $what: independent Rust $(decimal "$own"), sign_run $(decimal "$sign"), ratio $(decimal $(((sign * 100 + own / 2) / own)))"
-    done
+    beside speed sign sign_run
+    entered lounge_speed
+    $RUN "$out/lounge_speed" check
+    echo "speed: the old lounge module, instructions for each pair, from reset on 32,768 pairs"
+    beside lounge_speed entry lounge_run
     ;;
 costs)
     c_program costs tests/costs.c

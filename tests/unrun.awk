@@ -36,7 +36,7 @@ END {
                 sub(/::.*/, "", of)
                 if (may[i] in reached) continue
                 if (call == f && of != own) continue
-                if (at in known && of != at) continue
+                if (call ~ /::/ && at in known && of != at) continue
                 reached[may[i]] = todo[++last] = may[i]
             }
         }

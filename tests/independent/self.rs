@@ -1,13 +1,16 @@
 //! The independent program alone: the fifteen cases of the bench sheet, the sample, and the rules of
-//! document 01 and of requests W1 to W6 that it can be held to by itself. It uses nothing of the product but the
+//! document 01 and of requests W1 to W8 that it can be held to by itself. It uses nothing of the product but the
 //! table of move lengths, which is data.
 
 mod inputs;
 mod module;
+mod old_inputs;
+mod old_module;
 mod report;
 mod rng;
 
 use module::*;
+use old_inputs::written;
 use report::{hex, Report};
 use rng::Rng;
 
@@ -746,6 +749,321 @@ fn conditions(r: &mut Report) {
     }
 }
 
+/// A condition of the old lounge module in short: the cursor, the mode, `scroll` and `dim` where they are on, and
+/// each cell that is not as a cleared one: place=code, and its marks if it has any.
+fn in_short(c: &old_module::Condition) -> String {
+    let mut words = vec![c.cursor.to_string(), format!("DC{}", c.mode)];
+    words.extend(c.scroll_on.then(|| "scroll".to_string()));
+    words.extend(c.dimming.then(|| "dim".to_string()));
+    for (place, (&code, &marks)) in c.codes.iter().zip(&c.marks).enumerate() {
+        match (code, marks) {
+            (0x20, 0) => {}
+            (_, 0) => words.push(format!("{}={:02X}", place, code)),
+            _ => words.push(format!("{}={:02X}/{}", place, code, marks)),
+        }
+    }
+    words.join(" ")
+}
+
+/// The old lounge module, worked out by hand: the pairs from reset (a command write has a colon in front), and the
+/// condition after them, in short.
+fn lounge_examples(r: &mut Report) {
+    let examples = [
+        // 001, 8.1.1 3: a write goes right one; DC1 from the top right to 20, from the bottom right to 0
+        "41 -> 1 DC1 0=41",
+        ":13 41 -> 20 DC1 19=41",
+        ":27 41 -> 0 DC1 39=41",
+        // 02: 09h goes right one, in both modes, from the top right to 20
+        "09 -> 1 DC1",
+        ":13 09 -> 20 DC1",
+        "12 :13 09 -> 20 DC2",
+        // 001, 8.1.1 1: at the bottom right it scrolls, in both modes, and the bottom line is cleared
+        "42 :27 41 :27 09 -> 20 DC1 19=41",
+        "42 12 :27 41 09 -> 20 DC2 19=41",
+        // 001, 8.1.1 2: 0Dh goes to the left of the same line
+        ":19 0D -> 20 DC1",
+        ":05 0D -> 0 DC1",
+        // 001, 8.1.1 4 and 02: the first DC2 write at the right end stays there, further ones shift this line
+        "12 :13 41 -> 19 DC2 scroll 19=41",
+        "12 :13 41 42 -> 19 DC2 scroll 18=41 19=42",
+        "43 12 :27 41 42 -> 39 DC2 scroll 0=43 38=41 39=42",
+        "12 :12 41 42 43 -> 19 DC2 scroll 17=41 18=42 19=43",
+        // 02: scroll-on ends as on the first device: at 0Dh, 11h, 12h, an accepted position, though the same
+        "12 :13 41 0D -> 0 DC2 19=41",
+        "12 :13 41 11 42 -> 20 DC1 19=42",
+        "12 :13 41 12 42 -> 19 DC2 scroll 19=42",
+        "12 :13 41 :13 42 -> 19 DC2 scroll 19=42",
+        // 02: it ends at 09h at column 19 and at a reset of the cursor's line; that of the other leaves it
+        "12 :13 41 09 :13 -> 19 DC2 19=41",
+        "12 :13 41 :40 42 -> 1 DC2 0=42",
+        "12 :13 41 :41 42 -> 19 DC2 scroll 18=41 19=42",
+        // 02: codes with no meaning are ignored, and leave it; so do 28h to 3Fh (001, 8.2: no such position)
+        "12 :13 41 08 0A 0C 0E 0F 13 42 -> 19 DC2 scroll 18=41 19=42",
+        "12 :13 41 :28 :3F 42 -> 19 DC2 scroll 18=41 19=42",
+        // 001, 8.2: a reset fills the line with 20h, and the cursor goes to its left where it is in this line
+        "41 :14 42 :40 -> 21 DC1 20=42",
+        "41 :14 42 :41 -> 20 DC1 0=41",
+        "41 :14 42 :05 :41 -> 5 DC1 0=41",
+        // 02: other commands and codes with no meaning are ignored
+        ":05 :28 :42 :7F :80 :FF 00 08 0A 0C 0E 10 13 16 1E 1F -> 5 DC1",
+        // 02: codes from 20h up are written, also where 001's table is empty
+        "20 80 9F FF -> 4 DC1 1=80 2=9F 3=FF",
+        // 02: an area has both its positions; one position twice is one cell, blank cells too
+        "41 42 43 19 01 02 -> 3 DC1 0=41 1=42/2 2=43/2",
+        "1C 27 27 -> 0 DC1 39=20/4",
+        // 02: a pair out of order or above 27h is dropped, with both its bytes, and does not dim
+        "17 05 04 41 -> 1 DC1 0=41",
+        "17 28 05 41 -> 1 DC1 0=41",
+        "17 00 28 41 -> 1 DC1 0=41",
+        // 02: an accepted 17h pair turns dimming on, until 18h, which takes the bright marks of all areas
+        "41 17 00 00 -> 1 DC1 dim 0=41/1",
+        "17 00 00 17 02 02 18 -> 0 DC1",
+        "17 00 00 19 00 00 1C 00 00 18 -> 0 DC1 0=20/6",
+        "17 00 00 19 00 00 1C 00 00 1A -> 0 DC1 dim 0=20/5",
+        "17 00 00 19 00 00 1C 00 00 1D -> 0 DC1 dim 0=20/3",
+        // 02: a new character has no marks, nor has a cleared cell; dimming stays at a reset
+        "41 19 00 00 :00 42 -> 1 DC1 0=42",
+        "41 17 00 00 :40 -> 0 DC1 dim",
+        // 02: marks move with their characters: in the DC2 shift, where column 0 is lost, and in a scroll
+        "12 :13 41 19 13 13 42 -> 19 DC2 scroll 18=41/2 19=42",
+        "1C 00 01 12 :13 41 42 -> 19 DC2 scroll 0=20/4 18=41 19=42",
+        "1C 00 01 :27 41 19 26 27 :27 09 -> 20 DC1 18=20/2 19=41/2",
+        // 02: a command write acts at once and leaves a half-received sequence waiting
+        "19 :05 00 :06 01 41 -> 7 DC1 0=20/2 1=20/2 6=41",
+        "1B :09 09 1 2 3 :0C 4 5 09 -> 13 DC1 12=09",
+        // 001, 8.1.1 5: a user character on a control code is shown instead; on ESC it ends all definitions
+        "1B 17 1 2 3 4 5 17 00 41 -> 2 DC1 0=17 1=41",
+        "1B 1B 1 2 3 4 5 1B 41 1 2 3 -> 2 DC1 0=1B 1=41",
+        // the same: on 0Dh it does not end scroll-on
+        "12 1B 0D 1 2 3 4 5 :13 41 0D -> 19 DC2 scroll 18=41 19=0D",
+        // the same: on ESC it leaves the areas
+        "1B 1B 1 2 3 4 5 1C 00 00 -> 0 DC1 0=20/4",
+        // a parameter is a parameter, though it is a user code or a control code
+        "1B 05 1 2 3 4 5 19 05 05 1B 42 0D 09 17 1B 12 41 -> 1 DC1 0=41 5=20/2",
+    ];
+    for example in examples {
+        let (text, expected) = example.split_once(" -> ").expect("an arrow");
+        let pairs = written(text);
+        let got = old_module::run(&old_module::Condition::reset(), &pairs).expect("an accepted run");
+        r.cases += 1;
+        r.expect(in_short(&got) == expected, || {
+            format!("lounge example {}: {}", example, in_short(&got))
+        });
+        // 001, 8.3: what can be read is the last byte, of a data or a command write
+        r.expect(
+            got.last == pairs[pairs.len() - 1] && got.half == old_module::Half::Nothing,
+            || {
+                format!(
+                    "lounge example {}: last {:02X}, {:?}",
+                    example, got.last, got.half
+                )
+            },
+        );
+    }
+}
+
+/// User characters of the old lounge module, by hand: the pairs, and what is held, oldest first: code, first and
+/// fifth byte. Then what is half received.
+fn lounge_users(r: &mut Report) {
+    let nine: String = (0x80..=0x88)
+        .map(|code| format!("1B {:X} {:X} 0 0 0 1 ", code, code - 0x80))
+        .collect();
+    let eight = &nine[..nine.find("1B 88").unwrap()];
+    let again = format!("{} 1B 80 9 0 0 0 2", eight);
+    let then = format!("{} 1B 88 8 0 0 0 1", again);
+    let held = |codes: &[u8]| codes.iter().map(|&c| (c, c - 0x80, 1)).collect::<Vec<_>>();
+    let examples: [(&str, Vec<(u8, u8, u8)>); 6] = [
+        // 001's example; 02: the fifth byte's top five bits are dropped
+        ("1B 21 84 10 02 00 01", vec![(0x21, 0x84, 1)]),
+        ("1B 21 FF FF FF FF FF", vec![(0x21, 0xFF, 7)]),
+        ("1B 21 00 00 00 00 F8", vec![(0x21, 0, 0)]),
+        // 02: a ninth replaces the oldest
+        (&nine, held(&[0x81, 0x82, 0x83, 0x84, 0x85, 0x86, 0x87, 0x88])),
+        // 02: a code defined again becomes the youngest, and none goes; then the former second is the oldest
+        (
+            &again,
+            [
+                held(&[0x81, 0x82, 0x83, 0x84, 0x85, 0x86, 0x87]),
+                vec![(0x80, 9, 2)],
+            ]
+            .concat(),
+        ),
+        (
+            &then,
+            [
+                held(&[0x82, 0x83, 0x84, 0x85, 0x86, 0x87]),
+                vec![(0x80, 9, 2), (0x88, 8, 1)],
+            ]
+            .concat(),
+        ),
+    ];
+    for (text, users) in examples {
+        let c = old_module::Condition::reset().after(&written(text));
+        let got: Vec<_> = c.users[..c.count]
+            .iter()
+            .map(|u| (u.code, u.dots[0], u.dots[4]))
+            .collect();
+        r.cases += 1;
+        r.expect(got == users && c.half == old_module::Half::Nothing, || {
+            format!("lounge user characters {}: {:02X?}", text, got)
+        });
+    }
+    use old_module::Half;
+    let held = |code, count, held| Half::UserData { code, count, held };
+    let examples = [
+        ("1B", Half::Esc),
+        ("1B 1B", held(0x1B, 0, [0; 4])),
+        ("1B 41 17 :41 00", held(0x41, 2, [0x17, 0, 0, 0])),
+        ("1B 41 1 2 3 4", held(0x41, 4, [1, 2, 3, 4])),
+        ("1B 41 1 2 3 4 5", Half::Nothing),
+        ("17 :05", Half::First { area: 0x17 }),
+        // 02 drops the pair: a first position above 27h still waits for the second
+        (
+            "1C FF",
+            Half::Second {
+                area: 0x1C,
+                first: 0xFF,
+            },
+        ),
+        ("1C FF 00", Half::Nothing),
+    ];
+    for (text, half) in examples {
+        let c = old_module::Condition::reset().after(&written(text));
+        r.cases += 1;
+        r.expect(c.half == half, || {
+            format!("lounge, half received after {}: {:?}", text, c.half)
+        });
+    }
+}
+
+/// What the old lounge module refuses, shows and prints, by hand.
+fn lounge_answers(r: &mut Report) {
+    use old_module::{run, show_lounge, view, Condition, Shape, View};
+    let reset = Condition::reset();
+    let mut wrong = Condition::reset();
+    wrong.mode = 3;
+    let long = written("41").repeat(32_769);
+    // lowest number first, and all of the input counts
+    let refused = [
+        (run(&reset, &[0]), 1),
+        (run(&reset, &[2]), 1),
+        (run(&reset, &[2, 0]), 3),
+        (run(&wrong, &[]), 3),
+        (run(&wrong, &[0]), 1),
+        (run(&reset, &long), 4),
+        (run(&wrong, &long), 3),
+        (run(&reset, &[&long[..], &[2, 0]].concat()), 3),
+        (run(&reset, &[&long[..], &[2]].concat()), 1),
+    ];
+    for (i, (got, number)) in refused.into_iter().enumerate() {
+        r.cases += 1;
+        r.expect(got == Err(number), || format!("lounge, refusal {}: {:?}", i, got));
+    }
+    r.cases += 1;
+    r.expect(
+        run(&reset, &long[2..]).is_ok() && run(&reset, &[]) == Ok(reset.clone()),
+        || "lounge, the longest run and no run".to_string(),
+    );
+
+    // the user character of its code now, blank below 20h, else the built-in code
+    let shows = |text: &str, place: u32| view(&reset.after(&written(text)), place);
+    let plain = |shape| View {
+        shape,
+        level_b: false,
+        blinking: false,
+        underlined: false,
+    };
+    let dim = |shape| View {
+        level_b: true,
+        ..plain(shape)
+    };
+    let gone: String = (0x80..=0x87)
+        .map(|code| format!("1B {:X} 0 0 0 0 0 ", code))
+        .collect();
+    let views = [
+        (shows("", 39), Ok(plain(Shape::BuiltIn(0x20)))),
+        (shows("41 1B 41 1 2 3 4 5", 0), Ok(plain(Shape::User(0x41)))),
+        (shows("1B 09 1 2 3 4 5 09", 0), Ok(plain(Shape::User(0x09)))),
+        (
+            shows(&format!("1B 09 1 2 3 4 5 09 {}", gone), 0),
+            Ok(plain(Shape::Blank)),
+        ),
+        // level B without the bright mark, while dimming is on
+        (shows("41 42 17 00 00", 0), Ok(plain(Shape::BuiltIn(0x41)))),
+        (shows("41 42 17 00 00", 1), Ok(dim(Shape::BuiltIn(0x42)))),
+        (shows("41 42 17 00 00 18", 1), Ok(plain(Shape::BuiltIn(0x42)))),
+        (
+            shows("19 00 00 17 05 05", 0),
+            Ok(View {
+                blinking: true,
+                ..dim(Shape::BuiltIn(0x20))
+            }),
+        ),
+        (
+            shows("1C 00 00", 0),
+            Ok(View {
+                underlined: true,
+                ..plain(Shape::BuiltIn(0x20))
+            }),
+        ),
+        (shows("", 40), Err(3)),
+        (shows("", 256), Err(3)),
+        (view(&wrong, 0), Err(3)),
+    ];
+    for (i, (got, expected)) in views.into_iter().enumerate() {
+        r.cases += 1;
+        r.expect(got == expected, || {
+            format!("lounge, view {}: {:?} and not {:?}", i, got, expected)
+        });
+    }
+
+    let text = "41 19 00 00 12 :27 42 43 17 26 27 1C 27 27 1B 21 84 10 02 00 F9 1B 0D FF 0 0 0 0";
+    let expected = "41 20 20 20 20 20 20 20 20 20 20 20 20 20 20 20 20 20 20 20\n\
+                    20 20 20 20 20 20 20 20 20 20 20 20 20 20 20 20 20 20 42 43\n\
+                    20000000000000000000\n\
+                    00000000000000000015\n\
+                    cursor 39 mode 2 scroll 1 dimming 1 last 00\n\
+                    user 21 84 10 02 00 01\n\
+                    user 0D FF 00 00 00 00\n";
+    r.cases += 2;
+    r.expect(show_lounge(&written(text)) == expected, || {
+        "the lounge sample".to_string()
+    });
+    r.expect(show_lounge(&[0, 0x41, 2, 0x41]) == "refused 3\n", || {
+        "the refused lounge sample".to_string()
+    });
+}
+
+/// Random pairs keep conditions of the old lounge module well formed; a run is its pairs in turn; each wrong thing
+/// is seen.
+fn lounge_conditions(r: &mut Report) {
+    let mut rng = Rng::new(10);
+    for _ in 0..3_000 {
+        let c = old_inputs::some_condition(&mut rng);
+        r.cases += 1;
+        r.expect(c.well_formed(), || format!("not well formed: {:?}", c));
+        let length = rng.below(100);
+        let pairs = old_inputs::some_pairs(&mut rng, length);
+        let mut next = c.clone();
+        for pair in pairs.chunks_exact(2) {
+            next.take(pair[0], pair[1]);
+            r.cases += 1;
+            r.expect(next.well_formed() && next.last == pair[1], || {
+                format!("{} leads to {:?}", hex(&pairs), next)
+            });
+        }
+        r.expect(old_module::run(&c, &pairs) == Ok(next), || {
+            format!("in pieces otherwise: {}", hex(&pairs))
+        });
+        let mut spoiled = c.clone();
+        let wrong = rng.pick(&old_inputs::WRONGS);
+        old_inputs::spoil(&mut spoiled, wrong, &mut rng);
+        r.expect(!spoiled.well_formed(), || {
+            format!("{:?} is not seen: {:?}", wrong, spoiled)
+        });
+    }
+}
+
 fn main() {
     let mut r = Report::new();
     let moves = Moves::new();
@@ -761,7 +1079,14 @@ fn main() {
     reels_answered(&mut r, &moves);
     recoveries(&mut r);
     conditions(&mut r);
+    lounge_examples(&mut r);
+    lounge_users(&mut r);
+    lounge_answers(&mut r);
+    lounge_conditions(&mut r);
     // the bench sheet, the sample, examples by hand, ways, plans of two fonts, plans from a clear, refusals,
     // reels and their answers, ways back, conditions and each byte on each
-    r.end("self", 15 + 2 + 31 + 1_603 + 2_017 + 12 + 15 + 10 + 22 + 14 + 3_000 + 768_000);
+    let first = 15 + 2 + 31 + 1_603 + 2_017 + 12 + 15 + 10 + 22 + 14 + 3_000 + 768_000;
+    // the old lounge module: examples, user characters and what is half received, answers, conditions, pairs
+    let second = 50 + 14 + 24 + 3_000 + 140_000;
+    r.end("self", first + second);
 }
