@@ -76,6 +76,7 @@ fn area(h: &mut [u8], marks: &mut [u8], code: u8, first: u8, second: u8)
     dim(h, code, first, second);
 }
 
+// A data write that continues what is half received.
 pub(crate) fn continued(h: &mut [u8], marks: &mut [u8], users: &mut [u8], b: u8)
     requires { ⌜ (length (now h) ≡ 13) × (length (now marks) ≡ 40) × (length (now users) ≡ 48) × (0 < getD (now h) 6 0) ⌝ }
     ensures { λ _. ⌜ SetsRest (λ c. writtenOf c b) (now (h .entry)) (now (marks .entry)) (now (users .entry))
