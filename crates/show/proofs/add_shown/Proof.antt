@@ -8,8 +8,8 @@ use borrow.Author.Needs.{needs}
 use Rattle.show.proofs.add_shown.Statement.{statement}
 use Rattle.show.proofs.add_shown.Tie as tie
 
-slice-aggregate-add-cells : tie.Need-slice-aggregate-add-cells
-slice-aggregate-add-cells c = search needs
+codes-40 : (c : tie.Start) → length (c .args .r .condition .codes) ≡ 40
+codes-40 c = search needs
 
 add-cells-requires : tie.Need-add-cells-requires
 add-cells-requires c κs = search needs
@@ -26,20 +26,16 @@ same-length c = search needs
 returns : tie.Need-returns
 unfolding reportOf
 returns c =
-    let r =
-    c .before .before .before .before .before .before .before .before
-    .before .before .before .before .before .before .before .before .args .r in
-    let l : length (r .condition .codes) ≡ 40 = search needs in
     let p = c .before .before .before .before .before .before in
     let s = p .before .before .before .before in
-    printed r (both-added (s .add-cells .ensures) (p .add-place .ensures)) (c .before .before .add-end .ensures)
-    (le-trans (shown-length r l) (s .before .before .before .before .before .before .pre))
+    let o = s .before .before .before .before .before in
+    printed (o .args .r) (both-added (s .add-cells .ensures) (p .add-place .ensures)) (c .before .before .add-end .ensures)
+    (le-trans (shown-length (o .args .r) (codes-40 o)) (o .pre))
 
 pub add-shown-spec : {M : Type 1} → statement M
 add-shown-spec =
     tie.close
     (tie.spec
-    slice-aggregate-add-cells
     add-cells-requires
     add-place-requires
     add-end-requires
