@@ -35,7 +35,7 @@ extern "C" {
 
 /* The version of the library that this header belongs to. */
 #define SIGN_VERSION_MAJOR 2
-#define SIGN_VERSION_MINOR 5
+#define SIGN_VERSION_MINOR 6
 
 #define SIGN_BLOCK      512   /* bytes of a block */
 #define SIGN_TALLY      16    /* bytes of a tally */
@@ -50,16 +50,16 @@ extern "C" {
 /* Stack that a call needs on x86-64, in bytes, from its return address down, with all that it calls
    (the C library's memcpy and memset by their return address alone). The test `stack` compares
    these lines with the compiled code.
-     sign_power_up   664
-     sign_run        1,272
-     sign_plan       805
-     sign_plan_fonts 968
-     sign_reel       1,157
-     sign_recover    592
-     sign_view       656
-     sign_dot        560
-     sign_underline  544
-     sign_lit        544
+     sign_power_up   1,416
+     sign_run        2,968
+     sign_plan       1,720
+     sign_plan_fonts 1,656
+     sign_reel       2,328
+     sign_recover    1,480
+     sign_view       1,544
+     sign_dot        1,448
+     sign_underline  1,432
+     sign_lit        1,432
    A host that makes one call after the other needs the largest of those that it makes.
    The code also uses the red zone, the 128 bytes below the stack pointer that the x86-64 ABI leaves
    to a function. A signal handler on the same stack needs its own frame and those 128 bytes

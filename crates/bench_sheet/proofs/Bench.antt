@@ -7,8 +7,9 @@ use borrow.Author.Tests.{eq-eqb, le-leb}
 use Rattle.row.specs.Row.{lineStart, scrolled, shifted}
 use Rattle.users.specs.Users.{roomOf, limitOf, foundIn, isUser, characterAt, putOf, removed, without, withYoungest, defineOf}
 use Rattle.dots.specs.Dots.{dotOf, litUpTo, litOf}
-use Rattle.row.specs.Row.{allUpTo}
+use Rattle.row.specs.Row.{allUpTo, sameBytes}
 use Rattle.users.specs.Users.{absent, placesFormed, heldFormed}
+use Rattle.index.specs.Index.{entriesFrom, indexOf, indexAgrees}
 use Rattle.condition.specs.Condition.{numbersGood, scrollGood, escapeGood, wellFormed}
 use Rattle.condition.specs.Condition.{powerUp}
 use Rattle.condition.specs.Bytes.{scrollOf, leftOf, rightOf, downOf, returnOf, clearOf, pushOf, writeOf, isChar, controlOf}
@@ -32,17 +33,18 @@ use Rattle.reel.specs.Reel.{picturesOf, plansOf, firstRefused, wholeRefusal, st
 use Rattle.bench_sheet.specs.ReelSheet.{reelSheet}
 use Rattle.recovery.specs.Recovery.{getBack, lost, recoverRefusal}
 use Rattle.bench_sheet.specs.RecoverySheet.{recoverySheet}
+use Rattle.bench_sheet.specs.IndexSheet.{indexSheet}
 use Rattle.bench_sheet.specs.MoveSheet.{table, numberIn, Tabled}
 use Rattle.moves.proofs.Grid.{listed, grid, grid-is}
 use Rattle.moves.proofs.Rule.{ruled}
 
 pub bench : AllHold sheet
 unfolding powerUp runOf stepAt isChar isUser foundIn limitOf roomOf writeOf pushOf rightOf scrollOf scrolled shifted lineStart
-    controlOf leftOf downOf returnOf clearOf escapeOf positionOf dataOf defineOf removed without withYoungest putOf
-    totalOf quickAt writeBusy controlBusy escapeBusy rightScrolls downScrolls lineShifts showsOf showsCode dotsUpTo dotAnswer
-    litAnswer lookupOf wellFormed numbersGood scrollGood allUpTo placesFormed absent heldFormed escapeGood characterAt dotOf litOf
-    litUpTo wrong left next down move near1 near2 dist leaves firstByte pathOf path flagged planOf plan clearWins eitherBy onMove
-    lacks someLacks refusalBy planRefusal
+    controlOf leftOf downOf returnOf clearOf escapeOf positionOf dataOf defineOf removed without withYoungest putOf totalOf
+    quickAt writeBusy controlBusy escapeBusy rightScrolls downScrolls lineShifts showsOf showsCode dotsUpTo dotAnswer litAnswer
+    lookupOf wellFormed numbersGood scrollGood allUpTo placesFormed absent heldFormed escapeGood indexAgrees sameBytes indexOf
+    entriesFrom characterAt dotOf litOf litUpTo wrong left next down move near1 near2 dist leaves firstByte pathOf path flagged
+    planOf plan clearWins eitherBy onMove lacks someLacks refusalBy planRefusal
 bench = (
   (refl, refl),
   (
@@ -77,42 +79,49 @@ bench = (
 
 -- and the cases for two fonts
 pub fonts-bench : AllHold fontsSheet
-unfolding powerUp runOf stepAt isChar isUser foundIn limitOf roomOf controlOf escapeOf positionOf wellFormed numbersGood scrollGood
-    allUpTo placesFormed absent heldFormed escapeGood left next down move near1 near2 dist lineStart leaves firstByte pathOf path
-    flagged wrongFor switch fontsPlanOf fontsPlan clearWins eitherBy clearOf onMove onSwitch lacks someLacks refusalBy fontsRefusal
+unfolding powerUp runOf stepAt isChar isUser foundIn limitOf roomOf controlOf escapeOf positionOf wellFormed numbersGood
+    scrollGood allUpTo placesFormed absent heldFormed escapeGood indexAgrees sameBytes indexOf entriesFrom left next down move
+    near1 near2 dist lineStart leaves firstByte pathOf path flagged wrongFor switch fontsPlanOf fontsPlan clearWins eitherBy
+    clearOf onMove onSwitch lacks someLacks refusalBy fontsRefusal
 fonts-bench = ((refl, refl), ((refl, refl), ((refl, refl), tt)))
 
 -- and the cases that may start from a clear
 pub clear-bench : AllHold clearSheet
 unfolding powerUp runOf stepAt isChar isUser foundIn limitOf roomOf writeOf rightOf controlOf escapeOf dataOf defineOf removed
-    without withYoungest putOf clearOf wellFormed numbersGood scrollGood allUpTo placesFormed absent heldFormed escapeGood wrong
-    left
-    next down move near1 near2 dist lineStart leaves firstByte pathOf path flagged planOf plan wrongFor switch fontsPlanOf fontsPlan
-    clearWins eitherBy onMove onSwitch lacks someLacks refusalBy planRefusal fontsRefusal
+    without withYoungest putOf clearOf wellFormed numbersGood scrollGood allUpTo placesFormed absent heldFormed escapeGood
+    indexAgrees sameBytes indexOf entriesFrom wrong left next down move near1 near2 dist lineStart leaves firstByte pathOf path
+    flagged planOf plan wrongFor switch fontsPlanOf fontsPlan clearWins eitherBy onMove onSwitch lacks someLacks refusalBy
+    planRefusal fontsRefusal
 clear-bench = ((refl, refl), ((refl, refl), ((refl, refl), ((refl, refl), ((refl, refl), ((refl, refl), tt))))))
 
 -- and the cases for the tally
 pub tally-bench : AllCount tallySheet
-unfolding powerUp stepAt isChar isUser foundIn limitOf roomOf writeOf rightOf controlOf downOf escapeOf totalOf quickAt writeBusy
-    controlBusy escapeBusy rightScrolls downScrolls lineShifts wellFormed numbersGood scrollGood allUpTo placesFormed heldFormed
-    escapeGood absent withinLimit tallied runRefusal runAnswer
+unfolding powerUp stepAt isChar isUser foundIn limitOf roomOf writeOf rightOf controlOf downOf escapeOf totalOf quickAt
+    writeBusy controlBusy escapeBusy rightScrolls downScrolls lineShifts wellFormed numbersGood scrollGood allUpTo placesFormed
+    heldFormed escapeGood indexAgrees sameBytes indexOf entriesFrom absent withinLimit tallied runRefusal runAnswer
 tally-bench = ((refl, refl), ((refl, refl), ((refl, refl), tt)))
 
 -- and the cases for reels
 pub reel-bench : AllHold reelSheet
 unfolding powerUp runOf stepAt isChar isUser foundIn limitOf roomOf writeOf rightOf controlOf leftOf downOf returnOf clearOf
-    wellFormed numbersGood scrollGood allUpTo placesFormed absent heldFormed escapeGood wrong left next down move near1 near2 dist
-    lineStart leaves firstByte pathOf path flagged planOf plan clearWins eitherBy onMove lacks someLacks refusalBy planRefusal
-    picturesOf plansOf firstRefused wholeRefusal stopOf
+    wellFormed numbersGood scrollGood allUpTo placesFormed absent heldFormed escapeGood indexAgrees sameBytes indexOf
+    entriesFrom wrong left next down move near1 near2 dist lineStart leaves firstByte pathOf path flagged planOf plan clearWins
+    eitherBy onMove lacks someLacks refusalBy planRefusal picturesOf plansOf firstRefused wholeRefusal stopOf
 reel-bench = ((refl, refl), (refl, (refl, (refl, ((refl, refl), tt)))))
 
 -- and the cases for getting a lost module back
 pub recovery-bench : AllHold recoverySheet
 unfolding powerUp runOf stepAt isChar isUser foundIn limitOf roomOf writeOf rightOf controlOf escapeOf dataOf defineOf removed
-    without withYoungest putOf wellFormed numbersGood scrollGood allUpTo placesFormed absent heldFormed escapeGood getBack lost
-    recoverRefusal
+    without withYoungest putOf wellFormed numbersGood scrollGood allUpTo placesFormed absent heldFormed escapeGood indexAgrees
+    sameBytes indexOf entriesFrom getBack lost recoverRefusal
 recovery-bench =
     ((refl, refl, refl), ((refl, refl, refl), ((refl, refl, refl), ((refl, refl), ((refl, refl), (((refl, refl), refl), tt))))))
+
+-- and the cases for the index of user codes
+pub index-bench : AllHold indexSheet
+unfolding powerUp runOf stepAt isChar isUser foundIn limitOf roomOf controlOf escapeOf dataOf defineOf removed without withYoungest
+    putOf indexOf entriesFrom
+index-bench = (refl, (refl, ((refl, refl), ((refl, refl, refl), (refl, (refl, tt))))))
 
 -- and the table of the move bytes, computed whole
 all-numbers : table ≡ grid dist

@@ -6,3 +6,4 @@ pub mod ReelSheet
 pub mod RecoverySheet
 pub mod MoveSheet
 pub mod LoungeSheet
+pub mod IndexSheet

@@ -8,11 +8,12 @@ use lib.Dec.{eqb}
 use lib.ListN.{length}
 use borrow.Author.Tests.{eqb-true, not-false}
 use Rattle.laws.proofs.Tests.{by-test, passed}
+use Rattle.row.specs.Row.{sameBytes}
 use Rattle.condition.specs.Condition.{wellFormed}
 use Rattle.layout.specs.Layout.{conditionIn, unpackedOf}
 use Rattle.layout.proofs.PackedBack.{enough}
 use Rattle.block.specs.Block.{blockOf}
-use Rattle.block.specs.Reading.{sameBytes, intact, sound, readRefusal, damageOf}
+use Rattle.block.specs.Reading.{intact, sound, readRefusal, damageOf}
 
 -- a reading is refused for damage, and then for a condition that is not well formed
 pub read-by : (b : List ℕ) → readRefusal b ≡ cond (eqb (damageOf b) 0) (cond (wellFormed (conditionIn b)) 0 3) (damageOf b)

@@ -9,22 +9,24 @@ use lib.ListN.{length, getD, length-append}
 use lib.Seq.{getD-at, append-snoc}
 use borrow.Author.Tests.{eqb-true, eq-eqb, not-false}
 use Rattle.laws.proofs.Tests.{both, by-test, passed, number-by}
+use Rattle.row.specs.Row.{sameBytes}
+use Rattle.row.proofs.Alike.{same-eq, same-refl}
 use Rattle.condition.specs.declared.Condition.{Condition}
 use Rattle.condition.specs.declared.Outcome.{Outcome}
 use Rattle.condition.specs.Condition.{wellFormed}
 use Rattle.layout.specs.Layout.{headOf, packedOf, conditionIn}
 use Rattle.block.specs.Block.{checkOf, bodyOf, sealOf, blockOf}
-use Rattle.block.specs.Reading.{sameBytes, intact, sound, readRefusal, readAnswer}
-use Rattle.condition.proofs.Good.{Sized}
+use Rattle.block.specs.Reading.{intact, sound, readRefusal, readAnswer}
+use Rattle.condition.proofs.Good.{Sized, Indexed, good}
 use Rattle.condition.proofs.Kept.{power-up-good}
 use Rattle.layout.proofs.PackedBack.{back-with}
 use Rattle.block.proofs.Sealing.{length-body, length-block, check-body}
-use Rattle.block.proofs.Tidying.{same-eq, same-refl, block-parts}
+use Rattle.block.proofs.Tidying.{block-parts}
 
 -- What is written reads back the same --------------------------------------------------------------------------------------
 
-pub condition-back : (c : Condition) → Sized c → conditionIn (blockOf c) ≡ c
-condition-back c z = ap conditionIn (block-parts c) ∙ back-with c _ z
+pub condition-back : (c : Condition) → Sized c → Indexed c → conditionIn (blockOf c) ≡ c
+condition-back c z x = ap conditionIn (block-parts c) ∙ back-with c _ z x
 
 started : (c : Condition)
     → (eqb (getD (blockOf c) 0 0) 0x56 && eqb (getD (blockOf c) 1 0) 0x4B && eqb (getD (blockOf c) 2 0) 0x01 && true && true) ≡ true
@@ -46,7 +48,7 @@ intact-back c z =
 -- what a well-formed condition is written as is accepted, and is read as that condition
 pub reread : (c : Condition) → Sized c → wellFormed c ≡ true → readAnswer (blockOf c) ≡ record { refusal = 0; condition = c }
 unfolding readAnswer readRefusal sound
-reread c z w = rw (eq-eqb _ _ (length-block c z), intact-back c z, condition-back c z, w, same-refl (blockOf c))
+reread c z w = rw (eq-eqb _ _ (length-block c z), intact-back c z, condition-back c z (good c w .indexed), w, same-refl (blockOf c))
 
 -- What is accepted is written back the same --------------------------------------------------------------------------------
 

@@ -7,39 +7,24 @@ use native.Mathlib.Omega.{arith}
 use lib.Dec.{eqb, ltb, leb}
 use lib.ListN.{length, getD, take, drop, replicate, drop-of-length-le}
 use lib.Seq.{take-at, drop-at, getD-take, getD-drop}
-use borrow.Author.Tests.{eqb-true, eq-eqb, ltb-true, le-leb}
+use borrow.Author.Tests.{eqb-true, ltb-true, le-leb}
 use Rattle.laws.proofs.Tests.{both}
 use Rattle.condition.specs.declared.Condition.{Condition}
 use Rattle.condition.specs.declared.Pending.{Pending}
 use Rattle.condition.specs.declared.Pending.the-variants.{Nothing, Escape, Position, Luminance, Speed, UserCode, UserData}
-use Rattle.row.specs.Row.{allUpTo}
+use Rattle.row.specs.Row.{allUpTo, sameBytes}
 use Rattle.laws.specs.Flags.{flag}
 use Rattle.condition.specs.Condition.{heldOf}
 use Rattle.layout.specs.Layout.{kindOf, codeOf, headOf, packedOf, pendingOf, conditionIn}
 use Rattle.block.specs.Block.{checkOf, bodyOf, sealOf, blockOf}
-use Rattle.block.specs.Reading.{sameBytes, intact}
+use Rattle.block.specs.Reading.{intact}
 use Rattle.block.specs.Tidy.{kindGood, restZero, tidy}
+use Rattle.row.proofs.Alike.{same-eq, same-refl}
 use Rattle.laws.proofs.Flags.{flag-most, flag-fits}
 use Rattle.condition.proofs.Good.{Sized}
 use Rattle.laws.proofs.Lists.{cut, gets, bytewise}
 use Rattle.layout.proofs.PackedBack.{length-packed, sized-in, repacked}
 use Rattle.block.proofs.Sealing.{unused, length-body, check-body}
-
-pub same-eq : (x y : List ℕ) → sameBytes x y ≡ true → x ≡ y
-unfolding sameBytes
-same-eq [] [] e = refl
-same-eq [] (y ∷ ys) e = cc
-same-eq (x ∷ xs) [] e = cc
-same-eq (x ∷ xs) (y ∷ ys) e =
-    let h = both (eqb x y) (sameBytes xs ys) e in
-    let hx = eqb-true x y (h .0) in
-    let hxs = same-eq xs ys (h .1) in
-    cc
-
-pub same-refl : (l : List ℕ) → sameBytes l l ≡ true
-unfolding sameBytes
-same-refl [] = refl
-same-refl (x ∷ xs) = rw (eq-eqb x x refl) (same-refl xs)
 
 -- A block is tidy ----------------------------------------------------------------------------------------------------------
 

@@ -1,21 +1,15 @@
 -- What a block is read as (document 01, Block; Refusal numbers and their order).
 use Prim.Native.Nat.{ℕ, _/_, _%_}
 use mathlib.Core.Path.{_≡_}
-use mathlib.Core.List.{List, [], _∷_}
-use mathlib.Core.Bool.{Bool, true, false, cond, not, _&&_}
+use mathlib.Core.List.{List}
+use mathlib.Core.Bool.{Bool, true, cond, not, _&&_}
 use lib.ListN.{length, getD}
 use lib.Dec.{eqb}
+use Rattle.row.specs.Row.{sameBytes}
 use Rattle.condition.specs.declared.Outcome.{Outcome}
 use Rattle.condition.specs.Condition.{wellFormed, powerUp}
 use Rattle.layout.specs.Layout.{conditionIn}
 use Rattle.block.specs.Block.{checkOf, blockOf}
-
--- two rows of bytes are the same
-unfoldable pub sameBytes : List ℕ → List ℕ → Bool
-sameBytes [] [] = true
-sameBytes [] (y ∷ ys) = false
-sameBytes (x ∷ xs) [] = false
-sameBytes (x ∷ xs) (y ∷ ys) = eqb x y && sameBytes xs ys
 
 -- bytes 0-2 and the check
 unfoldable pub intact : List ℕ → Bool

@@ -1,21 +1,25 @@
--- What moves the cursor, writes or clears leaves aside: the user characters, the half-received command and the default font. The
--- last no byte at all changes.
-use mathlib.Core.Path.{_≡_, refl, _∙_}
+-- What moves the cursor, writes or clears leaves aside: the user characters and their index, the half-received command and the
+-- default font. The last no byte at all changes, and no byte leaves an index that is not the list's.
+use mathlib.Core.Path.{_≡_, refl, sym, _∙_}
 use mathlib.Core.Bool.{_&&_}
 use mathlib.Core.List.{List}
 use Prim.Native.Nat.{ℕ}
 use lib.Dec.{eqb, ltb, leb}
+use lib.ListN.{replicate}
 use Rattle.laws.proofs.Tests.{by-test}
+use Rattle.index.proofs.Entries.{index-none}
 use Rattle.condition.specs.declared.Condition.{Condition}
 use Rattle.condition.specs.Condition.{column, powerUp}
 use Rattle.condition.specs.Set.{withCell}
 use Rattle.condition.specs.Bytes.{scrollOf, leftOf, rightOf, downOf, returnOf, clearOf, pushOf, writeOf}
 use Rattle.condition.specs.Bytes.{positionOf, dataOf, stepOf, runOf}
 use Rattle.condition.proofs.Each.{step-by, run-by}
+use Rattle.condition.proofs.Good.{Indexed}
 
 -- d has them as c has them
 pub record Aside (c d : Condition) : Type 0 where
   pub users : d .users ≡ c .users
+  pub index : d .index ≡ c .index
   pub pending : d .pending ≡ c .pending
   pub link : d .link ≡ c .link
 
@@ -75,7 +79,7 @@ step-link c b =
       begin = λ e n. refl;
       ignored = refl;
       await = λ e p z. refl;
-      initialise = λ e. refl;
+      initialise = λ e _. refl;
       steady = λ e. refl;
       position = λ e. by-test (λ (d : Condition). d .link ≡ c .link) (leb b 0x27) (λ _. refl) (λ _. refl);
       luminance = λ e. refl;
@@ -86,3 +90,39 @@ step-link c b =
 
 pub run-link : (c : Condition) (bs : List ℕ) → runOf c bs .link ≡ c .link
 run-link c bs = run-by (λ (d : Condition). d .link ≡ c .link) (λ _. Unit {0}) (λ d b _ e. step-link d b ∙ e) c bs (λ _. tt) refl
+
+-- an index that is the list's stays so, whatever else the condition holds
+still-indexed : (c d : Condition) → Aside c d → Indexed c → Indexed d
+still-indexed c d a x = rw (a .users, a .index) x
+
+step-indexed : (c : Condition) (b : ℕ) → Indexed c → Indexed (stepOf c b)
+unfolding positionOf dataOf powerUp
+step-indexed c b x =
+    step-by Indexed c b
+    (record {
+      write = still-indexed c _ (write-aside c b) x;
+      left = still-indexed c _ (left-aside c) x;
+      right = still-indexed c _ (right-aside c) x;
+      down = still-indexed c _ (down-aside c) x;
+      home = x;
+      return = still-indexed c _ (return-aside c) x;
+      clear = still-indexed c _ (clear-aside c) x;
+      mode = λ m l h. x;
+      shown = λ _. x;
+      international = x;
+      katakana = x;
+      euro = x;
+      begin = λ e n. x;
+      ignored = x;
+      await = λ e p z. x;
+      initialise = λ e _. sym (index-none 256 (replicate 96 0));
+      steady = λ e. x;
+      position = λ e. by-test Indexed (leb b 0x27) (λ _. x) (λ _. x);
+      luminance = λ e. x;
+      speed = λ e. x;
+      code = λ e. x;
+      user-data = λ code n e. by-test Indexed (ltb n 4) (λ _. x) (λ _. refl);
+    })
+
+pub run-indexed : (c : Condition) (bs : List ℕ) → Indexed c → Indexed (runOf c bs)
+run-indexed c bs x = run-by Indexed (λ _. Unit {0}) (λ d b _ y. step-indexed d b y) c bs (λ _. tt) x

@@ -35,7 +35,7 @@ pub record Commands (P : Condition → Type 0) (c : Condition) (b : ℕ) : Type 
   pub ignored : P c
   -- a byte after 1Bh that waits for more, or ends the command
   pub await : c .pending ≡ Escape → (p : Pending) → heldOf p ≡ 0 → P (withPending c p)
-  pub initialise : c .pending ≡ Escape → P (powerUp (c .link))
+  pub initialise : c .pending ≡ Escape → b ≡ 0x49 → P (powerUp (c .link))
   pub steady : c .pending ≡ Escape → P (withFlickerless (withPending c Nothing) true)
   pub position : c .pending ≡ Position → P (positionOf c b)
   pub luminance : c .pending ≡ Luminance → P (luminanceOf c b)
@@ -72,7 +72,7 @@ module _ (P : Condition → Type 0) (c : Condition) (b : ℕ) (k : Commands P c 
   escape-by e =
       by-test P (eqb b 0x43) (λ _. k .await e UserCode refl)
       (λ _. by-test P (eqb b 0x48) (λ _. k .await e Position refl)
-      (λ _. by-test P (eqb b 0x49) (λ _. k .initialise e)
+      (λ _. by-test P (eqb b 0x49) (λ h. k .initialise e (eqb-true b 0x49 h))
       (λ _. by-test P (eqb b 0x4C) (λ _. k .await e Luminance refl)
       (λ _. by-test P (eqb b 0x53) (λ _. k .steady e)
       (λ _. by-test P (eqb b 0x54) (λ _. k .await e Speed refl)

@@ -12,12 +12,14 @@ use Rattle.row.specs.Row.{allUpTo}
 use Rattle.row.proofs.Laws.{line-start-most, scrolled-40, shifted-40}
 use Rattle.users.specs.Users.{roomOf, placesFormed, heldFormed}
 use Rattle.users.proofs.Places.{room-for, define-length}
+use Rattle.index.specs.Index.{indexOf, indexAgrees}
+use Rattle.index.proofs.Entries.{agreeing, agreed}
 use Rattle.condition.specs.declared.Condition.{Condition}
 use Rattle.condition.specs.declared.Pending.{Pending}
 use Rattle.condition.specs.declared.Pending.the-variants.{Nothing, Escape, Position, Luminance, Speed, UserCode, UserData}
 use Rattle.condition.specs.Condition.{idle, heldOf, column, numbersGood, scrollGood, escapeGood}
 use Rattle.condition.specs.Condition.{wellFormed, powerUp}
-use Rattle.condition.specs.Set.{withCell}
+use Rattle.condition.specs.Set.{withCell, withUsers}
 use Rattle.condition.specs.Bytes.{scrollOf, leftOf, rightOf, downOf, returnOf, clearOf, pushOf, writeOf, positionOf}
 use Rattle.condition.specs.Bytes.{dataOf, stepOf, runOf}
 use Rattle.condition.proofs.Each.{Commands, step-by, run-by}
@@ -31,6 +33,14 @@ idle-is Luminance e = clash e refl
 idle-is Speed e = clash e refl
 idle-is UserCode e = clash e refl
 idle-is (UserData code n) e = clash e refl
+
+-- the index is that of the list
+abbrev pub Indexed : Condition → Type 0
+Indexed c = c .index ≡ indexOf 256 (c .users .bytes) (c .users .count)
+
+-- then it is what the list's own index would make it
+pub own-index : (c : Condition) → Indexed c → withUsers c (c .users) ≡ c
+own-index c x = rw (← x)
 
 -- the parts of well-formedness
 pub record Good (c : Condition) : Type 0 where
@@ -46,6 +56,7 @@ pub record Good (c : Condition) : Type 0 where
   pub users-good : placesFormed 16 (c .users .count) (c .users .bytes) ≡ true
   pub held-good : heldFormed (heldOf (c .pending)) (c .held) ≡ true
   pub escape : escapeGood c ≡ true
+  pub indexed : Indexed c
 
 pub good : (c : Condition) → wellFormed c ≡ true → Good c
 unfolding wellFormed numbersGood
@@ -55,7 +66,9 @@ good c e =
     let f = allUpTo 1 (c .fonts) in
     let u = placesFormed 16 (c .users .count) (c .users .bytes) in
     let p = heldFormed (heldOf (c .pending)) (c .held) in
-    let p₅ = both (n && s && f && u && p) (escapeGood c) e in
+    let x = escapeGood c in
+    let p₆ = both (n && s && f && u && p && x) (indexAgrees (c .index) (c .users .bytes) (c .users .count)) e in
+    let p₅ = both (n && s && f && u && p) x (p₆ .0) in
     let p₄ = both (n && s && f && u) p (p₅ .0) in
     let p₃ = both (n && s && f) u (p₄ .0) in
     let p₂ = both (n && s) f (p₃ .0) in
@@ -79,6 +92,7 @@ good c e =
       users-good = p₃ .1;
       held-good = p₄ .1;
       escape = p₅ .1;
+      indexed = agreeing (c .users .bytes) (c .users .count) (c .index) (p₆ .1);
     }
 
 pub formed : (c : Condition) → Good c → wellFormed c ≡ true
@@ -97,6 +111,7 @@ formed c g =
       g .users-good,
       g .held-good,
       g .escape,
+      agreed (c .users .bytes) (c .users .count) (c .index) (g .indexed),
     )
 
 -- Sizes: every condition of the code has them, and a byte keeps them --------------------------------------------------------
@@ -180,7 +195,7 @@ commands-sized c b s =
       begin = λ e n. search;
       ignored = s;
       await = λ e p z. search;
-      initialise = λ e. search;
+      initialise = λ e _. search;
       steady = λ e. search;
       position = λ e. by-test Sized (leb b 0x27) (λ _. search) (λ _. search);
       luminance = λ e. search;

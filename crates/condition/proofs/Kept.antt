@@ -13,6 +13,7 @@ use Rattle.row.proofs.Ranges.{up-to-set, up-to-replicate, scrolled-up-to, shift
 use Rattle.users.specs.Users.{roomOf, isUser, absent, placesFormed, heldFormed}
 use Rattle.users.proofs.Places.{not-user, new-not-user, define-most}
 use Rattle.users.proofs.Formed.{define-formed, absent-at, at-absent, next-held}
+use Rattle.index.proofs.Entries.{none-agrees}
 use Rattle.condition.specs.declared.Condition.{Condition}
 use Rattle.condition.specs.declared.Pending.{Pending}
 use Rattle.condition.specs.declared.Pending.the-variants.{Nothing, Escape, UserData}
@@ -29,8 +30,8 @@ use Rattle.condition.proofs.Good.{Good, good, formed, Sized, room-16, s
 
 pub power-up-good : (f : ℕ) → f ≤ 1 → wellFormed (powerUp f) ≡ true
 unfolding wellFormed powerUp numbersGood scrollGood allUpTo placesFormed heldFormed escapeGood
-power-up-good zero h = refl
-power-up-good (suc zero) h = refl
+power-up-good zero h = none-agrees (replicate 96 0)
+power-up-good (suc zero) h = none-agrees (replicate 96 0)
 power-up-good (suc (suc f)) h = absurd (omega arith)
 
 -- so it is given for a font link of 0 or 1, and refused for any other
@@ -224,7 +225,7 @@ commands-kept c b s h g =
       begin = λ e n. await-kept c g Escape (rw e) refl (escape-free c s g n);
       ignored = g;
       await = λ e p z. await-kept c g p (rw e) z (no-escape c g (rw e));
-      initialise = λ e. good (powerUp (c .link)) (power-up-good (c .link) (g .link-1));
+      initialise = λ e _. good (powerUp (c .link)) (power-up-good (c .link) (g .link-1));
       steady = λ e. flickerless-kept (withPending c Nothing) (ended (rw e) (rw e)) true;
       position =
           λ e. by-test Good (leb b 0x27)

@@ -6,6 +6,7 @@ use lib.Dec.{eqb, ltb, leb}
 use Rattle.row.specs.Row.{allUpTo}
 use Rattle.users.specs.declared.Users.{Users}
 use Rattle.users.specs.Users.{absent, placesFormed, heldFormed}
+use Rattle.index.specs.Index.{indexAgrees}
 use Rattle.condition.specs.declared.Condition.{Condition}
 use Rattle.condition.specs.declared.Outcome.{Outcome}
 use Rattle.condition.specs.declared.Pending.{Pending}
@@ -51,11 +52,13 @@ scrollGood c = not (c .scrolling) || eqb (c .mode) 3 && eqb (column c) 19
 unfoldable pub escapeGood : Condition → Bool
 escapeGood c = idle (c .pending) || absent 0x1B (c .users .count) (c .users .bytes)
 
--- fonts 0 or 1; user codes distinct, each fifth byte below 16, the other places 0; 0 to 4 bytes held, the others 0
+-- fonts 0 or 1; user codes distinct, each fifth byte below 16, the other places 0; 0 to 4 bytes held, the others 0; the index
+-- agrees with the list (02, W9)
 unfoldable pub wellFormed : Condition → Bool
 wellFormed c =
     numbersGood c && scrollGood c && allUpTo 1 (c .fonts) && placesFormed 16 (c .users .count) (c .users .bytes)
     && heldFormed (heldOf (c .pending)) (c .held) && escapeGood c
+    && indexAgrees (c .index) (c .users .bytes) (c .users .count)
 
 -- Power-up ---------------------------------------------------------------------------------------------------------------
 
@@ -80,6 +83,7 @@ powerUp f =
       speed = 0x14;
       flickerless = false;
       users = noUsers;
+      index = replicate 256 0;
       pending = Nothing;
       held = replicate 4 0;
     }

@@ -5,6 +5,7 @@ use mathlib.Core.List.{List}
 use mathlib.Core.Bool.{Bool, false}
 use lib.ListN.{set}
 use Rattle.users.specs.declared.Users.{Users}
+use Rattle.index.specs.Index.{indexOf}
 use Rattle.condition.specs.declared.Condition.{Condition}
 use Rattle.condition.specs.declared.Pending.{Pending}
 
@@ -24,6 +25,7 @@ withCells c x y =
       speed = c .speed;
       flickerless = c .flickerless;
       users = c .users;
+      index = c .index;
       pending = c .pending;
       held = c .held;
     }
@@ -44,6 +46,7 @@ withCursor c x =
       speed = c .speed;
       flickerless = c .flickerless;
       users = c .users;
+      index = c .index;
       pending = c .pending;
       held = c .held;
     }
@@ -64,6 +67,7 @@ withMode c x =
       speed = c .speed;
       flickerless = c .flickerless;
       users = c .users;
+      index = c .index;
       pending = c .pending;
       held = c .held;
     }
@@ -84,6 +88,7 @@ withScrolling c x =
       speed = c .speed;
       flickerless = c .flickerless;
       users = c .users;
+      index = c .index;
       pending = c .pending;
       held = c .held;
     }
@@ -104,6 +109,7 @@ withShown c x =
       speed = c .speed;
       flickerless = c .flickerless;
       users = c .users;
+      index = c .index;
       pending = c .pending;
       held = c .held;
     }
@@ -124,6 +130,7 @@ withFont c x =
       speed = c .speed;
       flickerless = c .flickerless;
       users = c .users;
+      index = c .index;
       pending = c .pending;
       held = c .held;
     }
@@ -144,6 +151,7 @@ withEuro c x =
       speed = c .speed;
       flickerless = c .flickerless;
       users = c .users;
+      index = c .index;
       pending = c .pending;
       held = c .held;
     }
@@ -164,6 +172,7 @@ withLuminance c x =
       speed = c .speed;
       flickerless = c .flickerless;
       users = c .users;
+      index = c .index;
       pending = c .pending;
       held = c .held;
     }
@@ -184,6 +193,7 @@ withSpeed c x =
       speed = x;
       flickerless = c .flickerless;
       users = c .users;
+      index = c .index;
       pending = c .pending;
       held = c .held;
     }
@@ -204,10 +214,12 @@ withFlickerless c x =
       speed = c .speed;
       flickerless = x;
       users = c .users;
+      index = c .index;
       pending = c .pending;
       held = c .held;
     }
 
+-- user characters, with their index (02, W9)
 abbrev pub withUsers : Condition → Users → Condition
 withUsers c x =
     record {
@@ -224,6 +236,29 @@ withUsers c x =
       speed = c .speed;
       flickerless = c .flickerless;
       users = x;
+      index = indexOf 256 (x .bytes) (x .count);
+      pending = c .pending;
+      held = c .held;
+    }
+
+-- an index of any kind: a condition by value may have one (no byte gives it one that is not the list's)
+abbrev pub withIndex : Condition → List ℕ → Condition
+withIndex c x =
+    record {
+      codes = c .codes;
+      fonts = c .fonts;
+      cursor = c .cursor;
+      mode = c .mode;
+      scrolling = c .scrolling;
+      shown = c .shown;
+      font = c .font;
+      link = c .link;
+      euro = c .euro;
+      luminance = c .luminance;
+      speed = c .speed;
+      flickerless = c .flickerless;
+      users = c .users;
+      index = x;
       pending = c .pending;
       held = c .held;
     }
@@ -244,6 +279,7 @@ withPending c x =
       speed = c .speed;
       flickerless = c .flickerless;
       users = c .users;
+      index = c .index;
       pending = x;
       held = c .held;
     }
@@ -264,6 +300,7 @@ withHeld c x =
       speed = c .speed;
       flickerless = c .flickerless;
       users = c .users;
+      index = c .index;
       pending = c .pending;
       held = x;
     }

@@ -34,6 +34,8 @@ pub struct Condition {
     pub speed: u8,
     pub flickerless: bool,
     pub users: Users,
+    // For each code its place in their list, counted from 1, or 0 where it has none.
+    pub index: [u8; index::ENTRIES],
     pub pending: Pending,
     // The data bytes held of a user character that is being received.
     pub held: [u8; Condition::HELD],
@@ -169,6 +171,7 @@ impl Condition {
             speed: 0x14,
             flickerless: false,
             users: users,
+            index: [0u8; index::ENTRIES],
             pending: Pending::Nothing,
             held: [0u8; Condition::HELD],
         }
@@ -199,6 +202,10 @@ impl Condition {
         let fonts = self.fonts;
         let p = self.pending;
         let held = self.held;
-        numbers_good(self) & scroll_good(self) & rows_good(&fonts, u.count, &bytes, p, &held)
+        let index = self.index;
+        numbers_good(self)
+            & scroll_good(self)
+            & rows_good(&fonts, u.count, &bytes, p, &held)
+            & index::agrees(&bytes, u.count, &index)
     }
 }

@@ -1,29 +1,51 @@
 -- What carrying bytes out answers.
 use Prim.Native.Nat.{ℕ, _≤_, _<_}
 use mathlib.Core.Path.{_≡_, refl, sym, ap, _∙_}
-use mathlib.Core.Bool.{true, false, cond, not}
+use mathlib.Core.Bool.{Bool, true, false, cond, not, _&&_}
 use mathlib.Core.List.{List}
 use native.Mathlib.Omega.{arith}
 use lib.Dec.{ltb}
 use lib.ListN.{length}
 use borrow.Author.Tests.{eq-eqb, ne-eqb, lt-ltb, le-ltb, ltb-false, not-false}
 use Rattle.laws.proofs.Tests.{passed, number-by}
+use Rattle.row.specs.Row.{sameBytes}
+use Rattle.index.specs.Index.{indexOf, indexAgrees}
 use Rattle.condition.specs.declared.Condition.{Condition}
 use Rattle.condition.specs.Condition.{wellFormed}
-use Rattle.condition.proofs.Good.{Sized}
-use Rattle.layout.specs.Layout.{packedOf, conditionIn}
-use Rattle.layout.proofs.PackedBack.{packed-back}
+use Rattle.condition.specs.Set.{withUsers}
+use Rattle.condition.proofs.Good.{Sized, own-index, good}
+use Rattle.condition.proofs.Rows.{formed-by-list}
+use Rattle.layout.specs.Layout.{packedOf, conditionIn, unpackedOf}
+use Rattle.layout.proofs.PackedBack.{enough, length-packed, packed-back}
 use Rattle.inplace.specs.declared.After.{After}
 use Rattle.inplace.specs.declared.Spent.{Spent}
-use Rattle.inplace.specs.InPlace.{Carried}
+use Rattle.inplace.specs.InPlace.{Indexed, Carried}
 use Rattle.inplace.specs.Carry.{carryRefusal, untouchedOf, carriedOf, afterOf}
 
--- a run on the packed condition
-pub carries : (c : Condition) (p after : List ℕ) (k : Condition) (bs : List ℕ) (spent : Spent) → Sized c → p ≡ packedOf c
-    → k ≡ conditionIn after → Carried (conditionIn p) bs (conditionIn after) spent → Carried c bs k spent
-carries c p after k bs spent s e f g =
-    let h : conditionIn p ≡ c = ap conditionIn e ∙ packed-back c s in
-    rw f (rw h at g)
+-- a run on the condition c, packed as p, with entries x that are built from p
+module _ (c : Condition) (p x : List ℕ) (s : Sized c) (e : p ≡ packedOf c) (n : length x ≡ 256)
+    (built : Indexed x (conditionIn p)) where
+  back : conditionIn p ≡ withUsers c (c .users)
+  back = ap conditionIn e ∙ packed-back c s
+
+  -- what is told of it in the bytes, and of its index beside the entries, is whether it is well formed
+  pub told : (f a : Bool) → f ≡ wellFormed (unpackedOf p) → a ≡ sameBytes (c .index) x → (f && a) ≡ wellFormed c
+  unfolding indexAgrees
+  told f a g h =
+      let long : 200 ≤ length p = omega (arith, ap length e ∙ length-packed c s) in
+      let list : x ≡ indexOf 256 (c .users .bytes) (c .users .count) = built ∙ rw (n, back) in
+      rw (g ∙ ap wellFormed (enough p long ∙ back), h, list) (formed-by-list c)
+
+  module _ (w : wellFormed c ≡ true) where
+    same : conditionIn p ≡ c
+    same = back ∙ own-index c (good c w .indexed)
+
+    pub starts : wellFormed (conditionIn p) ≡ true
+    starts = ap wellFormed same ∙ w
+
+    pub carries : (after : List ℕ) (k : Condition) (bs : List ℕ) (spent : Spent) → k ≡ conditionIn after
+        → Carried (conditionIn p) bs (conditionIn after) spent → Carried c bs k spent
+    carries after k bs spent f g = rw f (rw same at g)
 
 module _ (c : Condition) (bs : List ℕ) (r : After) where
   -- refused, by its number

@@ -3,3 +3,4 @@ pub mod InPlace
 pub mod Branches
 pub mod Running
 pub mod Carrying
+pub mod Altering

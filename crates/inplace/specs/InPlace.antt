@@ -2,10 +2,15 @@
 use Prim.Native.Nat.{ℕ}
 use mathlib.Core.Path.{_≡_}
 use mathlib.Core.List.{List}
-use lib.ListN.{set, replicate}
+use mathlib.Core.Bool.{Bool, false}
+use lib.Dec.{eqb, leb}
+use lib.ListN.{length, set, replicate}
 use Rattle.row.specs.Row.{lineStart, shifted}
 use Rattle.users.specs.Users.{defineOf, usersIn}
+use Rattle.index.specs.Index.{indexOf}
 use Rattle.condition.specs.declared.Condition.{Condition}
+use Rattle.condition.specs.declared.Pending.{Pending}
+use Rattle.condition.specs.declared.Pending.the-variants.{Nothing, Escape, Position, Luminance, Speed, UserCode, UserData}
 use Rattle.condition.specs.declared.Figures.{Figures}
 use Rattle.inplace.specs.declared.Spent.{Spent}
 use Rattle.condition.specs.Condition.{powerUp}
@@ -39,6 +44,20 @@ releasedIn c = withHeld c (replicate 4 0)
 -- power-up for a font, but for the cells and the bytes of the user characters
 abbrev pub resetIn : Condition → ℕ → Condition
 resetIn c f = withUsers (withCells (powerUp f) (c .codes) (c .fonts)) (usersIn (c .users .bytes) 0)
+
+-- lent entries, as many as there are, are those of the condition's list
+abbrev pub Indexed : List ℕ → Condition → Type 0
+Indexed x c = x ≡ indexOf (length x) (c .users .bytes) (c .users .count)
+
+-- the byte may change the user characters: Initialise, and the fifth byte of one
+abbrev pub altersUsers : Pending → ℕ → Bool
+altersUsers Nothing b = false
+altersUsers Escape b = eqb b 0x49
+altersUsers Position b = false
+altersUsers Luminance b = false
+altersUsers Speed b = false
+altersUsers UserCode b = false
+altersUsers (UserData code n) b = leb 4 n
 
 -- a byte carried out: the condition after it, and its busy figures
 pub record Stepped (c : Condition) (b : ℕ) (after : Condition) (figures : Figures) : Type 0 where

@@ -1,6 +1,7 @@
 // What bytes do to a condition, worked out in place on the condition packed in 200 bytes.
 ghost use mathlib.Core.Path.{_≡_};
 ghost use Rattle.inplace.specs.Carry.{untouchedOf, afterOf};
+use characters::reindex;
 use condition::Condition;
 use run::run_in;
 
@@ -43,18 +44,22 @@ fn untouched(refusal: u8, c: Condition) -> After
     }
 }
 
-// The bytes are carried out in turn. 3 for a condition that is not well formed, 4 for more than 32,768 bytes.
+// The bytes are carried out in turn. 3 for a condition that is not well formed, 4 for more than 32,768 bytes. Whether it is well
+// formed is told in its bytes, and of its index beside the one that the run is lent: a test by value would copy all of it.
 pub fn carry(c: Condition, bytes: &[u8]) -> After
     ensures { λ r. ⌜ r ≡ afterOf c (now (bytes .entry)) ⌝ }
 {
-    if !c.well_formed() {
+    let mut s = layout::packed(c);
+    let mut index = [0u8; index::ENTRIES];
+    reindex(&s, &mut index);
+    let agree = row::same(&c.index, &index);
+    if !(layout::is_formed(&s) & agree) {
         return untouched(3, c);
     }
     if MOST_BYTES < bytes.len() {
         return untouched(4, c);
     }
-    let mut s = layout::packed(c);
-    let spent = run_in(&mut s, bytes);
+    let spent = run_in(&mut s, &mut index, bytes);
     let after = layout::unpacked(&s);
     After {
         refusal: 0,

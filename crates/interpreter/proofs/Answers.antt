@@ -13,7 +13,8 @@ use Rattle.condition.specs.declared.Condition.{Condition}
 use Rattle.condition.specs.Condition.{wellFormed}
 use Rattle.condition.specs.Bytes.{runOf}
 use Rattle.condition.specs.Busy.{totalOf, quickFigure, worstFigure, whileOn, busyOf, flickerlessOf, worstOf}
-use Rattle.condition.proofs.Good.{Sized, run-sized}
+use Rattle.condition.proofs.Good.{Sized, Indexed, run-sized}
+use Rattle.condition.proofs.Aside.{run-indexed}
 use Rattle.condition.proofs.Kept.{run-kept}
 use Rattle.condition.proofs.Pieces.{run-append, total-append, worst-law}
 use Rattle.interpreter.specs.declared.Tally.{Tally}
@@ -70,11 +71,17 @@ pub run-unformed : (c : Condition) (t : Tally) (bs : List ℕ) → wellFormed c 
 unfolding runAnswer runRefusal
 run-unformed c t bs w = rw w
 
--- a run keeps the arrays' lengths
-pub ran-sized : (c : Condition) (t : Tally) (bs : List ℕ) → Sized c → Sized (runAnswer c t bs .condition)
-unfolding runAnswer
-ran-sized c t bs s =
-    by-test (λ (r : Ran). Sized (r .condition)) (eqb (runRefusal c t bs) 0) (λ _. run-sized c bs s) (λ _. s)
+-- a run keeps what its bytes keep: the arrays' lengths, and an index that is the list's
+module _ (c : Condition) (t : Tally) (bs : List ℕ) where
+  ran-kept : (P : Condition → Type 0) → P c → P (runOf c bs) → P (runAnswer c t bs .condition)
+  unfolding runAnswer
+  ran-kept P p q = by-test (λ (r : Ran). P (r .condition)) (eqb (runRefusal c t bs) 0) (λ _. q) (λ _. p)
+
+  pub ran-sized : Sized c → Sized (runAnswer c t bs .condition)
+  ran-sized s = ran-kept Sized s (run-sized c bs s)
+
+  pub ran-indexed : Indexed c → Indexed (runAnswer c t bs .condition)
+  ran-indexed x = ran-kept Indexed x (run-indexed c bs x)
 
 module _ (c : Condition) (t : Tally) (bs : List ℕ) (r : Ran) where
   pub above-limit : withinLimit t ≡ false → r ≡ refusedOf 3 c t → RunPromise c t bs r

@@ -8,13 +8,15 @@ use lib.Dec.{eqb}
 use lib.ListN.{length, getD, take, drop, replicate, length-append}
 use borrow.Author.Tests.{ne-eqb, lt-ltb, le-ltb}
 use Rattle.row.specs.Row.{laid}
+use Rattle.index.specs.Index.{indexOf}
 use Rattle.condition.specs.declared.Condition.{Condition}
 use Rattle.condition.specs.declared.Pending.{Pending}
 use Rattle.condition.specs.declared.Pending.the-variants.{Nothing, Escape, Position, Luminance, Speed, UserCode, UserData}
 use Rattle.condition.specs.Condition.{heldOf, powerUp}
+use Rattle.condition.specs.Set.{withUsers}
 use Rattle.layout.specs.Layout.{kindOf, codeOf, headOf, packedOf, pendingOf, conditionIn, unpackedOf}
 use Rattle.laws.proofs.Flags.{flag-back}
-use Rattle.condition.proofs.Good.{Sized}
+use Rattle.condition.proofs.Good.{Sized, Indexed, own-index}
 use Rattle.laws.proofs.Lists.{part-length, gets-all}
 use Rattle.layout.proofs.Parts.{copied, cut-parts, in-codes, in-fonts, in-users}
 
@@ -42,10 +44,16 @@ sized-in s h =
       held-4 = part-length 16 4 s (omega arith);
     }
 
+-- and the index is built from the list
+pub indexed-in : (s : List ℕ) → Indexed (conditionIn s)
+unfolding conditionIn
+indexed-in s = refl
+
 -- the parts of the first 200 bytes, copied out, and the fields
-pub unpacking : (s x y w h : List ℕ) (p : Pending) → 200 ≤ length s → x ≡ laid (take 40 (drop 24 s)) (replicate 40 0)
+pub unpacking : (s x y w h z : List ℕ) (p : Pending) → 200 ≤ length s → x ≡ laid (take 40 (drop 24 s)) (replicate 40 0)
     → y ≡ laid (take 40 (drop 64 s)) (replicate 40 0) → w ≡ laid (take 96 (drop 104 s)) (replicate 96 0)
     → h ≡ laid (take 4 (drop 16 s)) (replicate 4 0) → p ≡ pendingOf (getD s 13 0) (getD s 14 0) (getD s 15 0)
+    → z ≡ indexOf 256 w (getD s 20 0)
     → _≡_ {A = Condition}
     (record {
       codes = x;
@@ -61,13 +69,14 @@ pub unpacking : (s x y w h : List ℕ) (p : Pending) → 200 ≤ length s → x 
       speed = getD s 11 0;
       flickerless = eqb (getD s 12 0) 1;
       users = record { bytes = w; count = getD s 20 0 };
+      index = z;
       pending = p;
       held = h;
     })
     (conditionIn s)
 unfolding conditionIn
-unpacking s x y w h p l ex ey ew eh ep =
-    rw (ex, ey, ew, eh, ep, copied s 24 40 (omega arith), copied s 64 40 (omega arith))
+unpacking s x y w h z p l ex ey ew eh ep ez =
+    rw (ez, ex, ey, ew, eh, ep, copied s 24 40 (omega arith), copied s 64 40 (omega arith))
     (rw (copied s 104 96 (omega arith), copied s 16 4 (omega arith)))
 
 -- a kind that is none of 0 to 5
@@ -86,10 +95,10 @@ pending-back Speed = refl
 pending-back UserCode = refl
 pending-back (UserData x n) = refl
 
--- whatever stands behind them, the packed bytes are read as the condition that they were packed from
-pub back-with : (c : Condition) (r : List ℕ) → Sized c → conditionIn (packedOf c ++ r) ≡ c
+-- whatever stands behind them, the packed bytes are read as the condition that they were packed from, but with the list's index
+list-back : (c : Condition) (r : List ℕ) → Sized c → conditionIn (packedOf c ++ r) ≡ withUsers c (c .users)
 unfolding conditionIn packedOf headOf
-back-with c r z =
+list-back c r z =
     let u : List ℕ = c .users .bytes in
     let e : drop 24 (packedOf c ++ r) ≡ c .codes ++ (c .fonts ++ (u ++ r)) = simp append-assoc in
     let codes : take 40 (drop 24 (packedOf c ++ r)) ≡ c .codes =
@@ -112,12 +121,17 @@ back-with c r z =
       speed = c .speed;
       flickerless = flag-back (c .flickerless) i;
       users = record { bytes = users i; count = c .users .count };
+      index = indexOf 256 (users i) (c .users .count);
       pending = pending-back (c .pending) i;
       held = gets-all 4 (c .held) (z .held-4) i;
     }
 
-pub packed-back : (c : Condition) → Sized c → conditionIn (packedOf c) ≡ c
-packed-back c z = ap conditionIn (sym (append-nil (packedOf c))) ∙ back-with c [] z
+-- which is its own where that is the list's
+pub back-with : (c : Condition) (r : List ℕ) → Sized c → Indexed c → conditionIn (packedOf c ++ r) ≡ c
+back-with c r z x = list-back c r z ∙ own-index c x
+
+pub packed-back : (c : Condition) → Sized c → conditionIn (packedOf c) ≡ withUsers c (c .users)
+packed-back c z = ap conditionIn (sym (append-nil (packedOf c))) ∙ list-back c [] z
 
 -- and the condition that stands in bytes, packed again, differs from them in its head alone
 pub repacked : (s : List ℕ) → packedOf (conditionIn s) ++ drop 200 s ≡ headOf (conditionIn s) ++ drop 24 s

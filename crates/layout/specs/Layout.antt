@@ -4,6 +4,8 @@ use mathlib.Core.List.{List, [], _∷_, _++_}
 use mathlib.Core.Bool.{cond}
 use lib.ListN.{length, getD, take, drop}
 use lib.Dec.{eqb, ltb}
+use Rattle.users.specs.Users.{usersIn}
+use Rattle.index.specs.Index.{indexOf}
 use Rattle.condition.specs.declared.Condition.{Condition}
 use Rattle.condition.specs.declared.Pending.{Pending}
 use Rattle.condition.specs.declared.Pending.the-variants.{Nothing, Escape, Position, Luminance, Speed, UserCode, UserData}
@@ -53,7 +55,7 @@ pendingOf kind code holds =
     (cond (eqb kind 5) UserCode
     (UserData code holds))))))
 
--- the condition that stands in bytes, in range or not
+-- the condition that stands in bytes, in range or not. The index does not stand there (02, W9): it is built from the list
 unfoldable pub conditionIn : List ℕ → Condition
 conditionIn s =
     record {
@@ -69,7 +71,8 @@ conditionIn s =
       luminance = getD s 10 0;
       speed = getD s 11 0;
       flickerless = eqb (getD s 12 0) 1;
-      users = record { bytes = take 96 (drop 104 s); count = getD s 20 0 };
+      users = usersIn (take 96 (drop 104 s)) (getD s 20 0);
+      index = indexOf 256 (take 96 (drop 104 s)) (getD s 20 0);
       pending = pendingOf (getD s 13 0) (getD s 14 0) (getD s 15 0);
       held = take 4 (drop 16 s);
     }

@@ -203,6 +203,8 @@ fn unpack(s: &[u8]) -> Condition
         bytes: bytes,
         count: s[COUNT],
     };
+    let mut index = [0u8; index::ENTRIES];
+    index::build(&bytes, s[COUNT], &mut index);
     Condition {
         codes: codes,
         fonts: fonts,
@@ -217,6 +219,7 @@ fn unpack(s: &[u8]) -> Condition
         speed: s[SPEED],
         flickerless: s[FLICKERLESS] == 1,
         users: users,
+        index: index,
         pending: pending,
         held: held,
     }

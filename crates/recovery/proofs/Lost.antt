@@ -73,7 +73,7 @@ module _ (c : Condition) (b : ℕ) (s : Sized c) (k : Stuck c) where
         begin = λ e n. clash (user-char c 0x1B (rw e at k)) n;
         ignored = k;
         await = λ e p z. waiting Escape e refl;
-        initialise = λ e. waiting Escape e refl;
+        initialise = λ e _. waiting Escape e refl;
         steady = λ e. waiting Escape e refl;
         position = λ e. waiting Position e refl;
         luminance = λ e. waiting Luminance e refl;

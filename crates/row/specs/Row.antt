@@ -1,8 +1,8 @@
--- Pictures of two lines of 20 places (document 01, The condition; document 02, W8: of both devices), what moves whole rows, and
--- whether one is in range.
+-- Pictures of two lines of 20 places (document 01, The condition; document 02, W8: of both devices), what moves whole rows,
+-- whether one is in range, and whether two are the same.
 use Prim.Native.Nat.{ℕ, _+_, _-_}
 use mathlib.Core.List.{List, [], _∷_, _++_}
-use mathlib.Core.Bool.{Bool, true, cond, _&&_}
+use mathlib.Core.Bool.{Bool, true, false, cond, _&&_}
 use lib.ListN.{length, take, drop, replicate}
 use lib.Dec.{eqb, ltb, leb}
 
@@ -38,3 +38,10 @@ laid s d = take (length d) s ++ drop (length s) d
 unfoldable pub allUpTo : ℕ → List ℕ → Bool
 allUpTo n [] = true
 allUpTo n (x ∷ xs) = leb x n && allUpTo n xs
+
+-- two rows of bytes are the same
+unfoldable pub sameBytes : List ℕ → List ℕ → Bool
+sameBytes [] [] = true
+sameBytes [] (y ∷ ys) = false
+sameBytes (x ∷ xs) [] = false
+sameBytes (x ∷ xs) (y ∷ ys) = eqb x y && sameBytes xs ys

@@ -1,13 +1,13 @@
 // A picture is two lines of 20 cells, 40 places in one row: 0 to 19 the top line, 20 to 39 the bottom one.
 // What moves whole rows stands here once, for codes, for fonts or marks, and for the bytes of user characters, of both devices;
-// and whether a row is in range.
+// whether a row is in range, and whether two are the same.
 ghost use mathlib.Core.Path.{_≡_};
 ghost use Prim.Native.Nat.{_+_, _-_, _≤_, min};
 ghost use lib.ListN.{length, take, drop, set, replicate};
 ghost use mathlib.Core.List.{_++_};
 ghost use lib.Seq.{paste};
 ghost use Rattle.row.specs.Row.{lineStart, scrolled, shifted, clearedLine, onPicture, advanced, laid};
-ghost use Rattle.row.specs.Row.{allUpTo};
+ghost use Rattle.row.specs.Row.{allUpTo, sameBytes};
 
 // The n places from `to` on take what stands `by` places further on.
 fn pull(cells: &mut [u8], to: usize, by: usize, n: usize)
@@ -133,4 +133,20 @@ pub fn up_to(n: u8, s: &[u8]) -> bool
         i += 1;
     }
     most <= n
+}
+
+// Two rows are the same. All of them is looked at: a loop that stops early takes longer.
+pub fn same(a: &[u8], b: &[u8]) -> bool
+    ensures { λ r. ⌜ r ≡ sameBytes (now (a .entry)) (now (b .entry)) ⌝ }
+{
+    if a.len() != b.len() {
+        return false;
+    }
+    let mut alike = true;
+    let mut i = 0;
+    while i < a.len() {
+        alike = alike & (a[i] == b[i]);
+        i += 1;
+    }
+    alike
 }

@@ -11,10 +11,10 @@ use Rattle.laws.proofs.Tests.{by-cases, by-equal, passed}
 use Rattle.condition.specs.declared.Condition.{Condition}
 use Rattle.condition.specs.declared.Outcome.{Outcome}
 use Rattle.condition.specs.Condition.{wellFormed, powerUp, powerUpAnswer}
-use Rattle.condition.proofs.Good.{Sized}
+use Rattle.condition.proofs.Good.{Sized, Indexed}
 use Rattle.condition.proofs.Kept.{power-up-good, powered, unpowered}
 use Rattle.layout.specs.Layout.{conditionIn}
-use Rattle.layout.proofs.PackedBack.{sized-in}
+use Rattle.layout.proofs.PackedBack.{sized-in, indexed-in}
 use Rattle.block.specs.Block.{blockOf, putOver}
 use Rattle.block.specs.Reading.{readRefusal}
 use Rattle.block.specs.Writing.{writeRefusal, writeAnswer, writeOut, WritePromise}
@@ -27,7 +27,7 @@ use Rattle.block.proofs.RoundTrip.{condition-back, refusal-of, reread}
 use Rattle.interpreter.specs.declared.Tally.{Tally}
 use Rattle.interpreter.specs.declared.Ran.{Ran}
 use Rattle.interpreter.specs.Run.{limit, RunPromise, runAnswer}
-use Rattle.interpreter.proofs.Answers.{Within, run-unformed, ran-sized, ran-within, two-runs}
+use Rattle.interpreter.proofs.Answers.{Within, run-unformed, ran-sized, ran-indexed, ran-within, two-runs}
 use Rattle.planner.specs.declared.Planned.{Planned}
 use Rattle.planner.specs.Answer.{bytesBy, Promise, Plans, PlansFonts}
 use Rattle.host.specs.declared.Base.the-variants.{Plan}
@@ -124,6 +124,7 @@ module _ (b t bs : List ℕ) (h : length t ≡ 16) where
 pub record Done (b t bs b′ t′ : List ℕ) : Type 0 where
   pub takes : ranOf b t bs .refusal ≡ 0
   pub sized : Sized (ranOf b t bs .condition)
+  pub indexed : Indexed (ranOf b t bs .condition)
   pub block : b′ ≡ blockOf (ranOf b t bs .condition)
   pub tally : t′ ≡ tallyBytes (ranOf b t bs .tally)
 
@@ -138,6 +139,7 @@ done {b} {t} {bs} {b′} {t′} h =
     record {
       takes = rw z at (p .1);
       sized = ran-sized (conditionIn b) (tallyAt t) bs (sized-in b (omega arith));
+      indexed = ran-indexed (conditionIn b) (tallyAt t) bs (indexed-in b);
       block = h .block ∙ rw e;
       tally = h .tally ∙ rw e;
     })
@@ -151,7 +153,8 @@ two-host-runs {b} {t} {xs} {ys} {b₁} {t₁} f g h =
     let second = done g in
     let whole = done h in
     let r = ranOf b t xs in
-    let c : conditionIn b₁ ≡ r .condition = ap conditionIn (first .block) ∙ condition-back (r .condition) (first .sized) in
+    let c : conditionIn b₁ ≡ r .condition =
+    ap conditionIn (first .block) ∙ condition-back (r .condition) (first .sized) (first .indexed) in
     let y : tallyAt t₁ ≡ r .tally =
     ap tallyAt (first .tally) ∙ tally-back (r .tally) (ran-within (conditionIn b) (tallyAt t) xs (first .takes)) in
     let on : ranOf b₁ t₁ ys ≡ runAnswer (r .condition) (r .tally) ys = rw (c, y) in

@@ -43,7 +43,7 @@ fn room(bytes: &[u8]) -> usize
 }
 
 // As many places as are in use, and no more than there is room for.
-fn limit(bytes: &[u8], count: u8) -> usize
+pub fn limit(bytes: &[u8], count: u8) -> usize
     ensures { λ r. ⌜ (r ≡ limitOf (now (bytes .entry)) count) × (6 * r ≤ length (now (bytes .entry))) ⌝ }
 {
     let places = bytes.len() / Users::PLACE;

@@ -1,51 +1,81 @@
-use mathlib.Core.Path.{_≡_, refl, sym, ap, _∙_}
-use mathlib.Core.Bool.{true}
-use mathlib.Core.List.{List}
-use Prim.Native.Nat.{ℕ}
+use mathlib.Core.Path.{_≡_, refl, sym, _∙_}
+use mathlib.Core.Bool.{_&&_}
 use borrow.Author.Tests.{not-true, not-false}
 use Rattle.condition.specs.Condition.{wellFormed}
 use Rattle.condition.proofs.Good.{Sized}
-use Rattle.layout.specs.Layout.{conditionIn}
-use Rattle.layout.proofs.PackedBack.{packed-back, enough}
-use Rattle.inplace.proofs.Carrying.{carries, not-formed, too-long, carried}
+use Rattle.layout.proofs.PackedBack.{enough}
+use Rattle.inplace.proofs.Carrying.{told, starts, carries, not-formed, too-long, carried}
 use borrow.Author.Needs.{needs}
 use Rattle.inplace.proofs.carry.Statement.{statement}
 use Rattle.inplace.proofs.carry.Tie as tie
 
-sized : (c : tie.Start) → Sized (c .args .c)
+sized : (c : tie.Start) → Sized (c .args .t1)
 sized c = record { codes-40 = search needs; fonts-40 = search needs; users-96 = search needs; held-4 = search needs }
 
-formed : (c : tie.Else1) → wellFormed (c .before .before .before .args .c) ≡ true
-formed c = sym (c .before .well-formed .ensures) ∙ not-false _ (c .if1 .left)
+abbrev start : tie.After-is-formed → tie.Start
+start c = c .before .before .before .before .before .before .before .before .before .before .before .before .before
 
-well-formed-requires : tie.Need-well-formed-requires
-well-formed-requires c κs = search needs
+-- what the tests tell
+formed : (c : tie.After-is-formed) → (c .is-formed .result && c .before .before .same .result) ≡ wellFormed (start c .args .t1)
+formed c =
+    let x = c .before .before .before .before .before .before .before .before in
+    let p = x .before .before .before in
+    told _ _ _ (sized (p .before .before)) (p .packed .ensures) (search needs) (x .reindex .ensures) _ _ (c .is-formed .ensures)
+    (c .before .before .same .ensures)
+
+packed-requires : tie.Need-packed-requires
+packed-requires c κs = search needs
+
+slice-aggregate-reindex : tie.Need-slice-aggregate-reindex
+slice-aggregate-reindex c = search needs
+
+slice-aggregate-reindex-2 : tie.Need-slice-aggregate-reindex-2
+slice-aggregate-reindex-2 c = search needs
+
+reindex-requires : tie.Need-reindex-requires
+reindex-requires c κs = search needs
+
+slice-aggregate-same : tie.Need-slice-aggregate-same
+slice-aggregate-same c = search needs
+
+same-requires : tie.Need-same-requires
+same-requires c κs = search needs
+
+slice-aggregate-is-formed : tie.Need-slice-aggregate-is-formed
+slice-aggregate-is-formed c = search needs
+
+is-formed-requires : tie.Need-is-formed-requires
+is-formed-requires c κs = search needs
 
 untouched-requires : tie.Need-untouched-requires
 untouched-requires c κs = search needs
 
 returns : tie.Need-returns
 returns c =
-    not-formed _ _ _ (sym (c .before .before .well-formed .ensures) ∙ not-true _ (c .before .if1 .taken)) (c .untouched .ensures)
+    not-formed _ _ _ (sym (formed (c .before .before)) ∙ not-true _ (c .before .if1 .taken)) (c .untouched .ensures)
 
 untouched-requires-2 : tie.Need-untouched-requires-2
 untouched-requires-2 c κs = search needs
 
 returns-2 : tie.Need-returns-2
-returns-2 c = too-long _ _ _ (formed (c .before .before)) (c .before .if2 .taken) (c .untouched2 .ensures)
-
-packed-requires : tie.Need-packed-requires
-packed-requires c κs = search needs
+returns-2 c =
+    too-long _ _ _ (sym (formed (c .before .before .before)) ∙ not-false _ (c .before .before .if1 .left)) (c .before .if2 .taken)
+    (c .untouched2 .ensures)
 
 slice-aggregate-run-in : tie.Need-slice-aggregate-run-in
 slice-aggregate-run-in c = search needs
 
+slice-aggregate-run-in-2 : tie.Need-slice-aggregate-run-in-2
+slice-aggregate-run-in-2 c = search needs
+
 run-in-requires : tie.Need-run-in-requires
 run-in-requires c κs =
-    let k = c .before .before .before in
-    let a = k .before .before .before in
-    let packed = ap (λ (s : List ℕ). wellFormed (conditionIn s)) (c .before .packed .ensures) in
-    (search needs, packed ∙ ap wellFormed (packed-back (a .args .c) (sized a)) ∙ formed k, search needs)
+    let k = c .before .before .before .before in
+    let x = k .before .before .before .before .before .before .before .before in
+    let p = x .before .before .before in
+    let w = sym (formed k) ∙ not-false _ (c .before .before .before .if1 .left) in
+    let e = starts _ _ _ (sized (p .before .before)) (p .packed .ensures) (search needs) (x .reindex .ensures) w in
+    (search needs, e, search needs, x .reindex .ensures)
 
 slice-aggregate-unpacked : tie.Need-slice-aggregate-unpacked
 slice-aggregate-unpacked c = search needs
@@ -55,23 +85,33 @@ unpacked-requires c κs = search needs
 
 returns-3 : tie.Need-returns-3
 returns-3 c =
-    let p = c .before .before .before .before .before in
-    let k = p .before .before in
-    carried _ _ _ (formed k) (p .before .if2 .left) refl
-    (carries _ _ _ _ _ _ (sized (k .before .before .before)) (p .packed .ensures)
-    (c .unpacked .ensures ∙ enough _ (search needs)) (c .before .before .before .run-in .ensures))
+    let t = c .before .before .before .before .before .before .before in
+    let k = t .before .before in
+    let x = k .before .before .before .before .before .before .before .before in
+    let p = x .before .before .before in
+    let w = sym (formed k) ∙ not-false _ (t .before .if1 .left) in
+    carried _ _ _ w (t .if2 .left) refl
+    (carries _ _ _ (sized (p .before .before)) (p .packed .ensures) (search needs) (x .reindex .ensures) w _ _ _ _
+    (c .unpacked .ensures ∙ enough _ (search needs)) (c .before .before .before .before .run-in .ensures .0))
 
 pub carry-spec : {M : Type 1} → statement M
 carry-spec =
     tie.close
     (tie.spec
-    well-formed-requires
+    packed-requires
+    slice-aggregate-reindex
+    slice-aggregate-reindex-2
+    reindex-requires
+    slice-aggregate-same
+    same-requires
+    slice-aggregate-is-formed
+    is-formed-requires
     untouched-requires
     returns
     untouched-requires-2
     returns-2
-    packed-requires
     slice-aggregate-run-in
+    slice-aggregate-run-in-2
     run-in-requires
     slice-aggregate-unpacked
     unpacked-requires

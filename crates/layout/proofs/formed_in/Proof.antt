@@ -1,6 +1,6 @@
 use Rattle.layout.specs.Layout.{conditionIn}
-use Rattle.condition.proofs.Rows.{rows-law}
-use Rattle.layout.proofs.PackedBack.{sized-in}
+use Rattle.condition.proofs.Rows.{indexed-rows}
+use Rattle.layout.proofs.PackedBack.{sized-in, indexed-in}
 use borrow.Author.Needs.{needs}
 use Rattle.layout.proofs.formed_in.Statement.{statement}
 use Rattle.layout.proofs.formed_in.Tie as tie
@@ -60,7 +60,7 @@ returns c =
     let s = p .before .before .before .before .before .args .s .now in
     let z = sized-in s (search needs) in
     rw (c .rows-good .ensures, c .before .before .before .before .before .numbers-in .ensures, p .pending-in .ensures)
-    (rows-law (conditionIn s) (z .fonts-40) (z .users-96) (z .held-4))
+    (indexed-rows (conditionIn s) (indexed-in s) (z .fonts-40) (z .users-96) (z .held-4))
 
 pub formed-in-spec : {M : Type 1} → statement M
 formed-in-spec =

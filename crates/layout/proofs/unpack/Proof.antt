@@ -16,7 +16,7 @@ part-copy-end : tie.Need-part-copy-end
 part-copy-end c = search needs
 
 copy-requires : tie.Need-copy-requires
-copy-requires c κs = tt
+copy-requires c κs = search needs
 
 slice-aggregate-copy-2 : tie.Need-slice-aggregate-copy-2
 slice-aggregate-copy-2 c = search needs
@@ -31,7 +31,7 @@ part-copy-end-2 : tie.Need-part-copy-end-2
 part-copy-end-2 c = search needs
 
 copy-requires-2 : tie.Need-copy-requires-2
-copy-requires-2 c κs = tt
+copy-requires-2 c κs = search needs
 
 slice-aggregate-copy-3 : tie.Need-slice-aggregate-copy-3
 slice-aggregate-copy-3 c = search needs
@@ -46,7 +46,7 @@ part-copy-end-3 : tie.Need-part-copy-end-3
 part-copy-end-3 c = search needs
 
 copy-requires-3 : tie.Need-copy-requires-3
-copy-requires-3 c κs = tt
+copy-requires-3 c κs = search needs
 
 slice-aggregate-copy-4 : tie.Need-slice-aggregate-copy-4
 slice-aggregate-copy-4 c = search needs
@@ -61,7 +61,7 @@ part-copy-end-4 : tie.Need-part-copy-end-4
 part-copy-end-4 c = search needs
 
 copy-requires-4 : tie.Need-copy-requires-4
-copy-requires-4 c κs = tt
+copy-requires-4 c κs = search needs
 
 shared-slice-read-pending-in : tie.Need-shared-slice-read-pending-in
 shared-slice-read-pending-in c = search needs
@@ -73,52 +73,65 @@ shared-slice-read-pending-in-3 : tie.Need-shared-slice-read-pending-in-3
 shared-slice-read-pending-in-3 c = search needs
 
 pending-in-requires : tie.Need-pending-in-requires
-pending-in-requires c κs = tt
+pending-in-requires c κs = search needs
 
-shared-slice-read-t31 : tie.Need-shared-slice-read-t31
-shared-slice-read-t31 c = search needs
+shared-slice-read-build : tie.Need-shared-slice-read-build
+shared-slice-read-build c = search needs
 
-shared-slice-read-t35 : tie.Need-shared-slice-read-t35
-shared-slice-read-t35 c = search needs
+slice-aggregate-build : tie.Need-slice-aggregate-build
+slice-aggregate-build c = search needs
 
-shared-slice-read-t31-2 : tie.Need-shared-slice-read-t31-2
-shared-slice-read-t31-2 c = search needs
+shared-slice-read-build-2 : tie.Need-shared-slice-read-build-2
+shared-slice-read-build-2 c = search needs
 
-shared-slice-read-t33 : tie.Need-shared-slice-read-t33
-shared-slice-read-t33 c = search needs
+slice-aggregate-build-2 : tie.Need-slice-aggregate-build-2
+slice-aggregate-build-2 c = search needs
 
-shared-slice-read-t45 : tie.Need-shared-slice-read-t45
-shared-slice-read-t45 c = search needs
+build-requires : tie.Need-build-requires
+build-requires c κs = search needs
 
-shared-slice-read-t48 : tie.Need-shared-slice-read-t48
-shared-slice-read-t48 c = search needs
+shared-slice-read-t36 : tie.Need-shared-slice-read-t36
+shared-slice-read-t36 c = search needs
 
-shared-slice-read-t50 : tie.Need-shared-slice-read-t50
-shared-slice-read-t50 c = search needs
+shared-slice-read-t32 : tie.Need-shared-slice-read-t32
+shared-slice-read-t32 c = search needs
 
-shared-slice-read-t52 : tie.Need-shared-slice-read-t52
-shared-slice-read-t52 c = search needs
+shared-slice-read-t34 : tie.Need-shared-slice-read-t34
+shared-slice-read-t34 c = search needs
 
-shared-slice-read-t55 : tie.Need-shared-slice-read-t55
-shared-slice-read-t55 c = search needs
+shared-slice-read-t51 : tie.Need-shared-slice-read-t51
+shared-slice-read-t51 c = search needs
 
-shared-slice-read-t57 : tie.Need-shared-slice-read-t57
-shared-slice-read-t57 c = search needs
+shared-slice-read-t54 : tie.Need-shared-slice-read-t54
+shared-slice-read-t54 c = search needs
 
-shared-slice-read-t59 : tie.Need-shared-slice-read-t59
-shared-slice-read-t59 c = search needs
+shared-slice-read-t56 : tie.Need-shared-slice-read-t56
+shared-slice-read-t56 c = search needs
+
+shared-slice-read-t58 : tie.Need-shared-slice-read-t58
+shared-slice-read-t58 c = search needs
+
+shared-slice-read-t61 : tie.Need-shared-slice-read-t61
+shared-slice-read-t61 c = search needs
+
+shared-slice-read-t63 : tie.Need-shared-slice-read-t63
+shared-slice-read-t63 c = search needs
+
+shared-slice-read-t65 : tie.Need-shared-slice-read-t65
+shared-slice-read-t65 c = search needs
 
 returns : tie.Need-returns
 returns c =
-    let p = c .before .before .before .before .before .before .before .before .before .before .before in
+    let x = c .before .before .before .before .before .before .before .before .before .before .before in
+    let p = x .before .before .before .before .before in
     let c₄ = p .before .before .before .before .before in
     let c₃ = c₄ .before .before .before .before in
     let c₂ = c₃ .before .before .before .before in
     let c₁ = c₂ .before .before .before .before in
     let o = c₁ .before .before .before .before in
     unpacking (o .args .s .now) (c₁ .copy .last .0) (c₂ .copy2 .last .0) (c₃ .copy3 .last .0) (c₄ .copy4 .last .0)
-    (p .pending-in .result) (o .pre)
-    (c₁ .copy .ensures) (c₂ .copy2 .ensures) (c₃ .copy3 .ensures) (c₄ .copy4 .ensures) (p .pending-in .ensures)
+    (x .build .last .1 .1 .0) (p .pending-in .result) (o .pre)
+    (c₁ .copy .ensures) (c₂ .copy2 .ensures) (c₃ .copy3 .ensures) (c₄ .copy4 .ensures) (p .pending-in .ensures) (x .build .ensures)
 
 pub unpack-spec : {M : Type 1} → statement M
 unpack-spec =
@@ -148,15 +161,19 @@ unpack-spec =
     shared-slice-read-pending-in-2
     shared-slice-read-pending-in-3
     pending-in-requires
-    shared-slice-read-t31
-    shared-slice-read-t35
-    shared-slice-read-t31-2
-    shared-slice-read-t33
-    shared-slice-read-t45
-    shared-slice-read-t48
-    shared-slice-read-t50
-    shared-slice-read-t52
-    shared-slice-read-t55
-    shared-slice-read-t57
-    shared-slice-read-t59
+    shared-slice-read-build
+    slice-aggregate-build
+    shared-slice-read-build-2
+    slice-aggregate-build-2
+    build-requires
+    shared-slice-read-t36
+    shared-slice-read-t32
+    shared-slice-read-t34
+    shared-slice-read-t51
+    shared-slice-read-t54
+    shared-slice-read-t56
+    shared-slice-read-t58
+    shared-slice-read-t61
+    shared-slice-read-t63
+    shared-slice-read-t65
     returns)

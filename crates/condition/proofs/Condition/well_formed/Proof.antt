@@ -27,12 +27,22 @@ slice-aggregate-rows-good-3 c = search needs
 rows-good-requires : tie.Need-rows-good-requires
 rows-good-requires c κs = search needs
 
+slice-aggregate-agrees : tie.Need-slice-aggregate-agrees
+slice-aggregate-agrees c = search needs
+
+slice-aggregate-agrees-2 : tie.Need-slice-aggregate-agrees-2
+slice-aggregate-agrees-2 c = search needs
+
+agrees-requires : tie.Need-agrees-requires
+agrees-requires c κs = search needs
+
 returns : tie.Need-returns
 returns c =
-    let n = c .before .before .before .before .before in
-    let a = n .before .before .before .before .before in
-    rw (c .rows-good .ensures, c .before .before .before .before .scroll-good .ensures, n .numbers-good .ensures)
-    (rows-law (a .args .self) (sized a .0) (sized a .1) (sized a .2))
+    let r = c .before .before .before in
+    let n = r .before .before .before .before .before in
+    let a = n .before .before .before .before .before .before in
+    rw (c .agrees .ensures, r .rows-good .ensures, r .before .before .before .before .scroll-good .ensures)
+    (rw (n .numbers-good .ensures) (rows-law (a .args .self) (sized a .0) (sized a .1) (sized a .2)))
 
 pub well-formed-spec : {M : Type 1} → statement M
 well-formed-spec =
@@ -44,4 +54,7 @@ well-formed-spec =
     slice-aggregate-rows-good-2
     slice-aggregate-rows-good-3
     rows-good-requires
+    slice-aggregate-agrees
+    slice-aggregate-agrees-2
+    agrees-requires
     returns)

@@ -1,4 +1,5 @@
 use Rattle.condition.specs.Condition.{powerUp}
+use Rattle.index.proofs.Entries.{index-none}
 use Rattle.inplace.proofs.InPlace.{link-at}
 use borrow.Author.Needs.{needs}
 use Rattle.inplace.proofs.parameters.power_up.Statement.{statement}
@@ -23,7 +24,8 @@ returns : tie.Need-returns
 unfolding powerUp
 returns c =
     let f = c .before .before .before .before .before .before in
-    rw (c .before .before .reset .ensures, f .forget .ensures, f .before .before .before .before .blank .ensures) (simp link-at)
+    rw (c .before .before .reset .ensures, f .forget .ensures, f .before .before .before .before .blank .ensures)
+    (simp (link-at, index-none))
 
 pub power-up-spec : {M : Type 1} → statement M
 power-up-spec =

@@ -4,21 +4,23 @@ use native.Mathlib.Omega.{arith}
 use borrow.Author.Needs.{needs}
 use lib.ListN.{length}
 use Rattle.layout.specs.Layout.{conditionIn}
+use Rattle.inplace.specs.InPlace.{Indexed}
 use Rattle.inplace.proofs.Running.{Going, going-starts, going-place, going-most, going-turns, going-ends}
 use Rattle.inplace.proofs.run.run_in.Statement.{statement}
 use Rattle.inplace.proofs.run.run_in.Tie as tie
 
 abbrev Inv-loop : tie.InvT-loop
-Inv-loop s₀ bytes busy₀ flickerless₀ worst₀ i₀ s busy flickerless worst i =
+Inv-loop s₀ index₀ bytes busy₀ flickerless₀ worst₀ i₀ s index busy flickerless worst i =
     Going (conditionIn s₀) bytes s busy flickerless worst i × (length bytes ≤ 32768) × (length s ≡ length s₀)
+    × (length index ≡ length index₀) × Indexed index (conditionIn s)
 
 abbrev μ-loop : tie.MeasureT-loop
-μ-loop s₀ bytes busy₀ flickerless₀ worst₀ i₀ s busy flickerless worst i = length bytes - i
+μ-loop s₀ index₀ bytes busy₀ flickerless₀ worst₀ i₀ s index busy flickerless worst i = length bytes - i
 
 loop-holds : tie.Need-loop-holds Inv-loop μ-loop
 loop-holds c =
-    let p = c .before .before .pre in
-    (going-starts _ _ (p .0) (p .1), search needs, search needs)
+    let p = c .before .before .before .pre in
+    (going-starts _ _ (p .0) (p .1), p .2, search needs, search needs, p .3)
 
 slice-read-one-if : tie.Need-slice-read-one-if Inv-loop μ-loop
 slice-read-one-if c = omega (arith, c .before .before .loop .inv .0 .room)
@@ -36,15 +38,15 @@ shared-slice-read-step c = omega arith
 
 step-requires : tie.Need-step-requires Inv-loop μ-loop
 step-requires c κs =
-    let g = c .before .before .before .before .before .loop .inv .0 in
-    (g .room, going-place _ _ _ _ _ _ _ g)
+    let l = c .before .before .before .before .before .before .loop .inv in
+    (l .0 .room, going-place _ _ _ _ _ _ _ (l .0), l .4)
 
 cast-busy : tie.Need-cast-busy Inv-loop μ-loop
 cast-busy c = search needs
 
 add-busy : tie.Need-add-busy Inv-loop μ-loop
 add-busy c =
-    let l = c .before .before .before .before .before .before .before .before .before .loop .inv in
+    let l = c .before .before .before .before .before .before .before .before .before .before .before .before .loop .inv in
     omega (arith, c .struct-known .given, going-most _ _ _ _ _ _ _ (l .0) (l .1) .0)
 
 cast-worst : tie.Need-cast-worst Inv-loop μ-loop
@@ -52,7 +54,7 @@ cast-worst c = search needs
 
 add-worst : tie.Need-add-worst Inv-loop μ-loop
 add-worst c =
-    let l = c .before .before .before .before .before .before .before .before .before .before .loop .inv in
+    let l = c .before .before .before .before .before .before .before .before .before .before .before .before .before .loop .inv in
     omega (arith, c .struct-known2 .given, going-most _ _ _ _ _ _ _ (l .0) (l .1) .2)
 
 add-i : tie.Need-add-i Inv-loop μ-loop
@@ -63,21 +65,28 @@ loop-less c = omega arith
 
 loop-again : tie.Need-loop-again Inv-loop μ-loop
 loop-again c =
-    let w = c .before .before .before .before in
-    let f = w .before .before .before in
+    let w = c .before .before .before .before .before .before in
+    let f = w .before .before .before .before in
     let l = f .before .before .before .loop in
     let b = w .before .shared-slice-known2 .given (l .i) in (
-      going-turns _ _ _ _ _ _ _ (l .inv .0) _ _ _ (f .before .before .loop-test .taken) (b .fits) (search needs) (w .step .ensures)
-          (f .one-if .ensures .0),
+      going-turns _ _ _ _ _ _ _ (l .inv .0) _ _ _ (f .before .before .loop-test .taken) (b .fits) (search needs)
+          (w .step .ensures .0) (f .one-if .ensures .0),
       l .inv .1,
       search needs,
+      search needs,
+      w .step .ensures .1,
     )
 
 same-length : tie.Need-same-length Inv-loop μ-loop
 same-length c = search needs
 
+same-length-2 : tie.Need-same-length-2 Inv-loop μ-loop
+same-length-2 c = search needs
+
 returns : tie.Need-returns Inv-loop μ-loop
-returns c = going-ends _ _ _ _ _ _ _ (c .before .loop .inv .0) (c .loop-test .left)
+returns c =
+    let l = c .before .loop .inv in
+    (going-ends _ _ _ _ _ _ _ (l .0) (c .loop-test .left), l .4)
 
 pub run-in-spec : {M : Type 1} → statement M
 run-in-spec =
@@ -99,4 +108,5 @@ run-in-spec =
     loop-less
     loop-again
     same-length
+    same-length-2
     returns)
