@@ -1,6 +1,6 @@
 #!/bin/sh
 # Builds and runs one test, or a measure: tests/run.sh NAME. See tests/README.md. The gate runs these:
-tests='docs wrong self show tell show_lounge host questions plans fonts reels recovery lounge alike c-host example dump station install stack'
+tests='docs wrong self show tell show_lounge host questions plans fonts reels recovery lounge index alike c-host example dump station install stack'
 set -eu
 cd "$(dirname "$0")/.."
 case ${1:-} in
@@ -14,11 +14,12 @@ mkdir -p "$out"
 # The Makefile knows when a product is older than its sources. (Its own options, as -j, are not for this one.)
 program() { MAKEFLAGS='' make -s "$1"; }
 library() { MAKEFLAGS='' make -s lib; }
-# The entry of the old lounge module is for the tests alone, and make does not know it: rt sees whether it is current.
-entry() { rt staticlib lounge_entry >"$out/lounge_entry.log" 2>&1 || { cat "$out/lounge_entry.log" >&2; exit 1; }; }
+# The entries lounge_entry and index_entry are for the tests alone, and make does not know them: rt sees whether one is
+# current.
+entry() { rt staticlib "$1" >"$out/$1.log" 2>&1 || { cat "$out/$1.log" >&2; exit 1; }; }
 
-# alone NAME: a test program of this machine; linked NAME WORDS: one that is linked with libsign.a; entered NAME WORDS:
-# one that is linked with liblounge_entry.a
+# alone NAME: a test program of this machine; linked NAME WORDS: one that is linked with libsign.a; entered ENTRY NAME
+# WORDS: one that is linked with libENTRY.a
 alone() {
     need rust
     $OWN_RUSTC --edition 2021 -O -C overflow-checks=on -o "$out/$1" "tests/independent/$1.rs"
@@ -30,8 +31,8 @@ linked() {
 }
 entered() {
     need rust
-    entry
-    linked_with lounge_entry "$@"
+    entry "$1"
+    linked_with "$@"
 }
 linked_with() { # LIBRARY NAME WORDS
     lib=$1
@@ -81,9 +82,9 @@ each() {
     echo $(((four - none) * 100 / 4 / 32768))
 }
 decimal() { printf '%d.%02d' $(($1 / 100)) $(($1 % 100)); }
-# beside PROGRAM WHO NAME: two lines, the independent interpreter and the product on the two inputs of the program
+# beside PROGRAM WHO NAME INPUTS: a line for each input of the program, the independent interpreter and the product
 beside() {
-    for what in printable mixed; do
+    for what in $4; do
         own=$(each "$1" own "$what")
         product=$(each "$1" "$2" "$what")
         ratio=$(decimal $(((product * 100 + own / 2) / own)))
@@ -113,13 +114,17 @@ host | questions | plans | fonts | reels | recovery)
     $RUN "$out/$1"
     ;;
 lounge)
-    entered lounge -C overflow-checks=on
+    entered lounge_entry lounge -C overflow-checks=on
     $RUN "$out/lounge"
+    ;;
+index)
+    entered index_entry index -C overflow-checks=on
+    $RUN "$out/index"
     ;;
 alike)
     linked speed
     $RUN "$out/speed" check
-    entered lounge_speed
+    entered lounge_entry lounge_speed
     $RUN "$out/lounge_speed" check
     ;;
 c-host)
@@ -199,11 +204,11 @@ speed)
     $RUN "$out/speed" check
     choose_counter "$out/speed" own printable 0
     echo "speed: instructions for each input byte, from power-up on 32,768 bytes, counted by $counter on $(uname -m), $($RUSTC --version)"
-    beside speed sign sign_run
-    entered lounge_speed
+    beside speed sign sign_run 'printable mixed mixed-16'
+    entered lounge_entry lounge_speed
     $RUN "$out/lounge_speed" check
     echo "speed: the old lounge module, instructions for each pair, from reset on 32,768 pairs"
-    beside lounge_speed entry lounge_run
+    beside lounge_speed entry lounge_run 'printable mixed'
     ;;
 costs)
     c_program costs tests/costs.c

@@ -592,6 +592,16 @@ fn redefinitions(h: &mut Host) {
     }
 }
 
+/// 1 to 40 definitions, with codes defined again, the oldest dropped and Initialise between.
+fn definitions(h: &mut Host) {
+    for n in 1..=40 {
+        for _ in 0..100 {
+            let bytes = inputs::definitions(&mut h.rng, n);
+            h.run(&Condition::power_up(0).to_block(), &ZERO, &bytes);
+        }
+    }
+}
+
 /// The same bytes in one run or in several end alike.
 fn pieces(h: &mut Host, cases: usize) {
     for i in 0..cases {
@@ -722,6 +732,7 @@ fn main() {
     random_runs(&mut h, 40_000);
     random_plans(&mut h, 40_000);
     redefinitions(&mut h);
+    definitions(&mut h);
     pieces(&mut h, 2_000);
     long_day(&mut h);
     threads(&mut h);

@@ -257,12 +257,11 @@ pub fn printable(length: usize) -> Vec<u8> {
     (0..length).map(|_| 0x20 + rng.below(0x5F) as u8).collect()
 }
 
-/// Text and all commands mixed, for the measure. No user character comes onto 1Bh: it would end all
-/// commands.
-pub fn mixed(length: usize) -> Vec<u8> {
+/// These bytes, and then text and all commands mixed, each only where what the module is in after it is allowed.
+fn mixed_while(start: Vec<u8>, length: usize, allowed: impl Fn(&Condition) -> bool) -> Vec<u8> {
     let mut rng = Rng::new(33);
-    let mut c = Condition::power_up(0);
-    let mut out = Vec::new();
+    let mut c = Condition::power_up(0).after(&start);
+    let mut out = start;
     while out.len() < length {
         let flavour = rng.pick(&[Flavour::Text, Flavour::ScrollUp, Flavour::ScrollLeft, Flavour::Mixed]);
         for _ in 0..20 {
@@ -272,11 +271,7 @@ pub fn mixed(length: usize) -> Vec<u8> {
             for &b in &bytes {
                 next.take(b);
             }
-            let lost = match next.half {
-                Half::UserData { code, .. } => code == 0x1B,
-                _ => next.is_user(0x1B),
-            };
-            if !lost {
+            if allowed(&next) {
                 c = next;
                 out.extend_from_slice(&bytes);
             }
@@ -284,6 +279,24 @@ pub fn mixed(length: usize) -> Vec<u8> {
     }
     out.truncate(length);
     out
+}
+
+/// Text and all commands mixed, for the measure. No user character comes onto 1Bh: it would end all
+/// commands.
+pub fn mixed(length: usize) -> Vec<u8> {
+    mixed_while(Vec::new(), length, |c| match c.half {
+        Half::UserData { code, .. } => code != 0x1B,
+        _ => !c.is_user(0x1B),
+    })
+}
+
+/// The same with 16 user characters, on 80h to 8Fh, that are held all the time: what would change them is left out.
+pub fn mixed_16(length: usize) -> Vec<u8> {
+    let start: Vec<u8> = (0x80..=0x8F).flat_map(|code| define(code, [code, 0x5A, 0xA5, 0x3C, 0x0F])).collect();
+    let held = Condition::power_up(0).after(&start).users;
+    mixed_while(start, length, |c| {
+        c.users == held && !matches!(c.half, Half::UserCode | Half::UserData { .. })
+    })
 }
 
 /// ESC 43h: a user character.
@@ -322,6 +335,24 @@ pub fn redefinition_on(code: u8) -> Vec<Vec<u8>> {
         }
     }
     all
+}
+
+/// So many definitions on 20 codes, most of them commands: codes are defined again, the oldest go, and before one in
+/// eight comes Initialise. After each of them all 20 are sent: a user code is a character, any other what it is.
+pub fn definitions(rng: &mut Rng, n: usize) -> Vec<u8> {
+    const CODES: [u8; 20] = [
+        0x00, 0x07, 0x08, 0x09, 0x0A, 0x0C, 0x0D, 0x0E, 0x11, 0x12, 0x13, 0x15, 0x18, 0x19, 0x1A, 0x1F, 0x20, 0x41, 0x80,
+        0xFF,
+    ];
+    let mut out = Vec::new();
+    for i in 0..n {
+        if rng.once_in(8) {
+            out.extend_from_slice(&[0x1B, 0x49]);
+        }
+        out.extend(define(rng.pick(&CODES), [i as u8, 0x0E, 0x1B, 0x49, i as u8]));
+        out.extend_from_slice(&CODES);
+    }
+    out
 }
 
 /// 15 to 20 user characters, with one defined again before the 17th, each then written.

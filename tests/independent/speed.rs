@@ -1,6 +1,6 @@
 //! What an input byte costs: the independent interpreter beside sign_run, each from power-up on 32,768
 //! bytes. `tests/run.sh speed` counts the instructions of this program. Linked with libsign.a.
-//! Usage: speed own|sign printable|mixed REPEATS, or: speed check (both leave the same).
+//! Usage: speed own|sign printable|mixed|mixed-16 REPEATS, or: speed check (both leave the same).
 
 mod inputs;
 mod module;
@@ -46,11 +46,12 @@ fn main() {
     let input = |name: &str| match name {
         "printable" => inputs::printable(LONGEST_RUN),
         "mixed" => inputs::mixed(LONGEST_RUN),
+        "mixed-16" => inputs::mixed_16(LONGEST_RUN),
         _ => usage(),
     };
     match words[..] {
         ["check"] => {
-            for name in ["printable", "mixed"] {
+            for name in ["printable", "mixed", "mixed-16"] {
                 let bytes = input(name);
                 let mut block = Condition::power_up(0).to_block();
                 let mut expected = block;
@@ -62,7 +63,7 @@ fn main() {
                     std::process::exit(1);
                 }
             }
-            println!("speed: both leave the same on 32,768 printable and on 32,768 mixed bytes");
+            println!("speed: both leave the same on 32,768 printable and on 32,768 mixed bytes, also with 16 user characters");
         }
         [who, what, repeats] => {
             let bytes = input(what);
@@ -79,6 +80,6 @@ fn main() {
 }
 
 fn usage() -> ! {
-    eprintln!("usage: speed own|sign printable|mixed REPEATS, or: speed check");
+    eprintln!("usage: speed own|sign printable|mixed|mixed-16 REPEATS, or: speed check");
     std::process::exit(2)
 }
