@@ -51,7 +51,7 @@ extern "C" {
    (the C library's memcpy and memset by their return address alone). The test `stack` compares
    these lines with the compiled code.
      sign_power_up   1,416
-     sign_run        2,968
+     sign_run        3,016
      sign_plan       1,720
      sign_plan_fonts 1,656
      sign_reel       2,328

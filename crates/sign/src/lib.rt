@@ -106,7 +106,8 @@ pub extern "C" fn sign_run(block: &mut [u8], tally: &mut [u8], bytes: &[u8]) -> 
     if ran.refusal != 0 {
         return ran.refusal as u32;
     }
-    block::put(ran.condition, block);
+    let next = ran.condition;
+    block::put(next, block);
     let after = ran.tally;
     let numbers = tally_bytes(after);
     row::copy(tally, &numbers);

@@ -64,11 +64,11 @@ same-length-5 c = search needs
 returns-4 : tie.Need-returns-4
 returns-4 c =
     let w = c .before .before .before .before .before .before .before .before .before in
-    let r = w .before .before .before .before in
+    let r = w .before .before .before .before .before in
     let k = r .before .before .before .before in
     let g = k .before .before in
     run-written _ _ _ (g .before .before .if1 .left) _ (g .opened .ensures) _ _ (k .if2 .left)
-    (r .before .before .tally-at .ensures) (r .run .ensures) _ _ _ (w .before .before .if3 .left) (w .put .ensures)
+    (r .before .before .tally-at .ensures) (r .run .ensures) _ _ _ (w .before .before .before .if3 .left) (w .put .ensures)
     (c .before .before .before .before .before .tally-bytes .ensures) (c .before .before .copy .ensures)
 
 pub sign-run-spec : {M : Type 1} → statement M
