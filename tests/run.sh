@@ -204,7 +204,7 @@ speed)
     $RUN "$out/speed" check
     choose_counter "$out/speed" own printable 0
     echo "speed: instructions for each input byte, from power-up on 32,768 bytes, counted by $counter on $(uname -m), $($RUSTC --version)"
-    beside speed sign sign_run 'printable mixed mixed-16'
+    beside speed sign sign_run 'printable mixed mixed-16 definitions initialise'
     entered lounge_entry lounge_speed
     $RUN "$out/lounge_speed" check
     echo "speed: the old lounge module, instructions for each pair, from reset on 32,768 pairs"

@@ -592,14 +592,27 @@ fn redefinitions(h: &mut Host) {
     }
 }
 
-/// 1 to 40 definitions, with codes defined again, the oldest dropped and Initialise between.
+/// 1 to 40 definitions, with codes defined again, the oldest dropped and Initialise between: each of these is met with
+/// 16 held, or the test fails.
 fn definitions(h: &mut Host) {
+    let mut met = [0; 3];
     for n in 1..=40 {
         for _ in 0..100 {
             let bytes = inputs::definitions(&mut h.rng, n);
             h.run(&Condition::power_up(0).to_block(), &ZERO, &bytes);
+            let mut c = Condition::power_up(0);
+            for &b in &bytes {
+                let before = c.clone();
+                c.take(b);
+                if before.count == 16 && c.users != before.users {
+                    let again = before.is_user(c.users[15].code);
+                    met[if c.count == 0 { 2 } else { again as usize }] += 1;
+                }
+            }
         }
     }
+    println!("host: with 16 held, dropped {}, defined again {}, Initialise {}", met[0], met[1], met[2]);
+    h.report.expect(met.iter().all(|&n| n > 0), || format!("not all was met with 16 held: {:?}", met));
 }
 
 /// The same bytes in one run or in several end alike.

@@ -22,6 +22,9 @@ const CALLS: [&str; 10] = [
 
 const ENTRIES: usize = 256;
 
+/// How often each call was due each refusal, 0 to 11.
+type Met = [[u64; 12]; CALLS.len()];
+
 fn asked(call: usize, block: &[u8], entries: &[u8]) -> u32 {
     unsafe { index_refusal(call as u32, block.as_ptr(), block.len(), entries.as_ptr(), entries.len()) }
 }
@@ -56,7 +59,7 @@ fn due(call: usize, c: &Condition, moves: &Moves) -> u32 {
 }
 
 /// All calls with these entries: what is due, or 3 where they are not those of the list.
-fn all_calls(report: &mut Report, met: &mut [[u64; 12]; 10], c: &Condition, entries: &[u8; ENTRIES], moves: &Moves) {
+fn all_calls(report: &mut Report, met: &mut Met, c: &Condition, entries: &[u8; ENTRIES], moves: &Moves) {
     let block = c.to_block();
     let agrees = *entries == index_of(c);
     for call in 0..CALLS.len() {
@@ -74,7 +77,7 @@ fn main() {
     let moves = Moves::new();
     let mut rng = Rng::new(9);
     let mut report = Report::new();
-    let mut met = [[0; 12]; 10];
+    let mut met: Met = [[0; 12]; CALLS.len()];
     for i in 0..400 {
         let c = if i % 2 == 0 { any_condition(&mut rng) } else { reached_condition(&mut rng) };
         let right = index_of(&c);

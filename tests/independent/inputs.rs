@@ -299,6 +299,16 @@ pub fn mixed_16(length: usize) -> Vec<u8> {
     })
 }
 
+/// Definitions alone, on 40 codes in turn, so that the oldest always goes; for the measure.
+pub fn all_definitions(length: usize) -> Vec<u8> {
+    (0..length).flat_map(|i| define(0x40 + (i % 40) as u8, [i as u8; 5])).take(length).collect()
+}
+
+/// Initialise alone, for the measure.
+pub fn all_initialise(length: usize) -> Vec<u8> {
+    [0x1B, 0x49].iter().cycle().take(length).copied().collect()
+}
+
 /// ESC 43h: a user character.
 pub fn define(code: u8, data: [u8; 5]) -> Vec<u8> {
     let mut s = vec![0x1B, 0x43, code];
@@ -337,16 +347,18 @@ pub fn redefinition_on(code: u8) -> Vec<Vec<u8>> {
     all
 }
 
-/// So many definitions on 20 codes, most of them commands: codes are defined again, the oldest go, and before one in
-/// eight comes Initialise. After each of them all 20 are sent: a user code is a character, any other what it is.
+/// So many definitions on 20 codes, most of them commands: codes are defined again, the oldest go, and in every other
+/// case Initialise comes before one in sixteen. After each of them all 20 are sent: a user code is a character, any
+/// other what it is.
 pub fn definitions(rng: &mut Rng, n: usize) -> Vec<u8> {
     const CODES: [u8; 20] = [
         0x00, 0x07, 0x08, 0x09, 0x0A, 0x0C, 0x0D, 0x0E, 0x11, 0x12, 0x13, 0x15, 0x18, 0x19, 0x1A, 0x1F, 0x20, 0x41, 0x80,
         0xFF,
     ];
+    let initialising = rng.once_in(2);
     let mut out = Vec::new();
     for i in 0..n {
-        if rng.once_in(8) {
+        if initialising && rng.once_in(16) {
             out.extend_from_slice(&[0x1B, 0x49]);
         }
         out.extend(define(rng.pick(&CODES), [i as u8, 0x0E, 0x1B, 0x49, i as u8]));

@@ -1,6 +1,7 @@
 //! What an input byte costs: the independent interpreter beside sign_run, each from power-up on 32,768
 //! bytes. `tests/run.sh speed` counts the instructions of this program. Linked with libsign.a.
-//! Usage: speed own|sign printable|mixed|mixed-16 REPEATS, or: speed check (both leave the same).
+//! Usage: speed own|sign INPUT REPEATS, or: speed check (both leave the same). The inputs: printable, mixed, mixed-16,
+//! definitions, initialise.
 
 mod inputs;
 mod module;
@@ -47,11 +48,13 @@ fn main() {
         "printable" => inputs::printable(LONGEST_RUN),
         "mixed" => inputs::mixed(LONGEST_RUN),
         "mixed-16" => inputs::mixed_16(LONGEST_RUN),
+        "definitions" => inputs::all_definitions(LONGEST_RUN),
+        "initialise" => inputs::all_initialise(LONGEST_RUN),
         _ => usage(),
     };
     match words[..] {
         ["check"] => {
-            for name in ["printable", "mixed", "mixed-16"] {
+            for name in ["printable", "mixed", "mixed-16", "definitions", "initialise"] {
                 let bytes = input(name);
                 let mut block = Condition::power_up(0).to_block();
                 let mut expected = block;
@@ -63,7 +66,7 @@ fn main() {
                     std::process::exit(1);
                 }
             }
-            println!("speed: both leave the same on 32,768 printable and on 32,768 mixed bytes, also with 16 user characters");
+            println!("speed: both leave the same on 32,768 bytes of each input");
         }
         [who, what, repeats] => {
             let bytes = input(what);
@@ -80,6 +83,6 @@ fn main() {
 }
 
 fn usage() -> ! {
-    eprintln!("usage: speed own|sign printable|mixed|mixed-16 REPEATS, or: speed check");
+    eprintln!("usage: speed own|sign INPUT REPEATS, or: speed check");
     std::process::exit(2)
 }

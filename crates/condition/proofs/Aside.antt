@@ -1,5 +1,5 @@
 -- What moves the cursor, writes or clears leaves aside: the user characters and their index, the half-received command and the
--- default font. The last no byte at all changes, and no byte leaves an index that is not the list's.
+-- default font. The last no byte at all changes, and an index that is the list's stays so.
 use mathlib.Core.Path.{_≡_, refl, sym, _∙_}
 use mathlib.Core.Bool.{_&&_}
 use mathlib.Core.List.{List}

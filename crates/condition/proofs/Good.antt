@@ -12,14 +12,14 @@ use Rattle.row.specs.Row.{allUpTo}
 use Rattle.row.proofs.Laws.{line-start-most, scrolled-40, shifted-40}
 use Rattle.users.specs.Users.{roomOf, placesFormed, heldFormed}
 use Rattle.users.proofs.Places.{room-for, define-length}
-use Rattle.index.specs.Index.{indexOf, indexAgrees}
-use Rattle.index.proofs.Entries.{agreeing, agreed}
+use Rattle.index.specs.Index.{indexOf}
+use Rattle.index.proofs.Entries.{agrees-index, index-agrees}
 use Rattle.condition.specs.declared.Condition.{Condition}
 use Rattle.condition.specs.declared.Pending.{Pending}
 use Rattle.condition.specs.declared.Pending.the-variants.{Nothing, Escape, Position, Luminance, Speed, UserCode, UserData}
 use Rattle.condition.specs.Condition.{idle, heldOf, column, numbersGood, scrollGood, escapeGood}
-use Rattle.condition.specs.Condition.{wellFormed, powerUp}
-use Rattle.condition.specs.Set.{withCell, withUsers}
+use Rattle.condition.specs.Condition.{indexGood, wellFormed, powerUp}
+use Rattle.condition.specs.Set.{withCell, reindexed}
 use Rattle.condition.specs.Bytes.{scrollOf, leftOf, rightOf, downOf, returnOf, clearOf, pushOf, writeOf, positionOf}
 use Rattle.condition.specs.Bytes.{dataOf, stepOf, runOf}
 use Rattle.condition.proofs.Each.{Commands, step-by, run-by}
@@ -38,9 +38,9 @@ idle-is (UserData code n) e = clash e refl
 abbrev pub Indexed : Condition → Type 0
 Indexed c = c .index ≡ indexOf 256 (c .users .bytes) (c .users .count)
 
--- then it is what the list's own index would make it
-pub own-index : (c : Condition) → Indexed c → withUsers c (c .users) ≡ c
-own-index c x = rw (← x)
+-- such a condition stays as it is when it is given the list's
+pub reindexed-same : (c : Condition) → Indexed c → reindexed c ≡ c
+reindexed-same c x = rw (← x)
 
 -- the parts of well-formedness
 pub record Good (c : Condition) : Type 0 where
@@ -67,7 +67,7 @@ good c e =
     let u = placesFormed 16 (c .users .count) (c .users .bytes) in
     let p = heldFormed (heldOf (c .pending)) (c .held) in
     let x = escapeGood c in
-    let p₆ = both (n && s && f && u && p && x) (indexAgrees (c .index) (c .users .bytes) (c .users .count)) e in
+    let p₆ = both (n && s && f && u && p && x) (indexGood c) e in
     let p₅ = both (n && s && f && u && p) x (p₆ .0) in
     let p₄ = both (n && s && f && u) p (p₅ .0) in
     let p₃ = both (n && s && f) u (p₄ .0) in
@@ -92,7 +92,7 @@ good c e =
       users-good = p₃ .1;
       held-good = p₄ .1;
       escape = p₅ .1;
-      indexed = agreeing (c .users .bytes) (c .users .count) (c .index) (p₆ .1);
+      indexed = agrees-index (c .index) (c .users .bytes) (c .users .count) (p₆ .1);
     }
 
 pub formed : (c : Condition) → Good c → wellFormed c ≡ true
@@ -111,7 +111,7 @@ formed c g =
       g .users-good,
       g .held-good,
       g .escape,
-      agreed (c .users .bytes) (c .users .count) (c .index) (g .indexed),
+      index-agrees (c .index) (c .users .bytes) (c .users .count) (g .indexed),
     )
 
 -- Sizes: every condition of the code has them, and a byte keeps them --------------------------------------------------------

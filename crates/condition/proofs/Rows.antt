@@ -1,16 +1,16 @@
 -- The tests of the rows: with the numbers and the index they are the whole.
-use mathlib.Core.Path.{_≡_, refl, sym, ap, _∙_}
+use mathlib.Core.Path.{_≡_, refl, sym, ap}
 use mathlib.Core.Bool.{Bool, true, false, _&&_, _||_, and-true}
 use lib.Dec.{ltb, leb}
 use lib.ListN.{length}
 use borrow.Author.Tests.{eq-eqb}
 use Rattle.row.specs.Row.{allUpTo}
 use Rattle.users.specs.Users.{absent, placesFormed, heldFormed}
-use Rattle.index.specs.Index.{indexOf, indexAgrees}
-use Rattle.index.proofs.Entries.{agreed}
+use Rattle.index.proofs.Entries.{index-agrees}
 use Rattle.condition.specs.declared.Condition.{Condition}
-use Rattle.condition.specs.Condition.{idle, heldOf, numbersGood, scrollGood, escapeGood, wellFormed}
-use Rattle.condition.specs.Set.{withUsers}
+use Rattle.condition.specs.Condition.{idle, heldOf, numbersGood, scrollGood, escapeGood}
+use Rattle.condition.specs.Condition.{formedButIndex, indexGood, wellFormed}
+use Rattle.condition.specs.Set.{reindexed}
 use Rattle.condition.specs.Rows.{rowsGood}
 use Rattle.condition.proofs.Good.{Indexed}
 
@@ -25,35 +25,23 @@ grouped true true true true true false e = refl
 grouped true true true true true true e = refl
 
 pub rows-law : (c : Condition) → length (c .fonts) ≡ 40 → length (c .users .bytes) ≡ 96 → length (c .held) ≡ 4
-    → (numbersGood c && scrollGood c && rowsGood (c .fonts) (c .users .count) (c .users .bytes) (c .pending) (c .held)
-    && indexAgrees (c .index) (c .users .bytes) (c .users .count))
-    ≡ wellFormed c
-unfolding wellFormed numbersGood escapeGood rowsGood
+    → (numbersGood c && scrollGood c && rowsGood (c .fonts) (c .users .count) (c .users .bytes) (c .pending) (c .held))
+    ≡ formedButIndex c
+unfolding numbersGood escapeGood rowsGood
 rows-law c f u h =
     let m =
     ltb (c .cursor) 40 && leb 1 (c .mode) && leb (c .mode) 3 && leb (c .font) 1 && leb (c .link) 1 && leb (c .luminance) 3 in
-    let x = indexAgrees (c .index) (c .users .bytes) (c .users .count) in
     rw (eq-eqb _ _ f, eq-eqb _ _ u, eq-eqb _ _ h)
-    (ap (λ (t : Bool). t && x)
     (grouped m (leb (c .users .count) 16) (scrollGood c) (allUpTo 1 (c .fonts)) (placesFormed 16 (c .users .count)
     (c .users .bytes))
-    (heldFormed (heldOf (c .pending)) (c .held)) (idle (c .pending) || absent 0x1B (c .users .count) (c .users .bytes))))
-
--- well formed but for the index, and the index: it is asked beside any other that is the list's
-pub formed-by-list : (c : Condition)
-    → (wellFormed (withUsers c (c .users)) && indexAgrees (c .index) (c .users .bytes) (c .users .count)) ≡ wellFormed c
-unfolding wellFormed numbersGood scrollGood escapeGood
-formed-by-list c =
-    let u = placesFormed 16 (c .users .count) (c .users .bytes) in
-    let rest =
-    numbersGood c && scrollGood c && allUpTo 1 (c .fonts) && u && heldFormed (heldOf (c .pending)) (c .held) && escapeGood c in
-    let x = indexAgrees (c .index) (c .users .bytes) (c .users .count) in
-    rw (agreed (c .users .bytes) (c .users .count) (indexOf 256 (c .users .bytes) (c .users .count)) refl)
-    (ap (λ (t : Bool). t && x) (and-true rest))
+    (heldFormed (heldOf (c .pending)) (c .held)) (idle (c .pending) || absent 0x1B (c .users .count) (c .users .bytes)))
 
 -- of an index that is the list's nothing is to be asked
-pub indexed-rows : (c : Condition) → Indexed c → length (c .fonts) ≡ 40 → length (c .users .bytes) ≡ 96 → length (c .held) ≡ 4
-    → (numbersGood c && scrollGood c && rowsGood (c .fonts) (c .users .count) (c .users .bytes) (c .pending) (c .held))
-    ≡ wellFormed c
-indexed-rows c x f u h =
-    sym (rw (agreed (c .users .bytes) (c .users .count) (c .index) x) (and-true _)) ∙ rows-law c f u h
+pub indexed-formed : (c : Condition) → Indexed c → formedButIndex c ≡ wellFormed c
+unfolding wellFormed
+indexed-formed c x = sym (rw (index-agrees (c .index) (c .users .bytes) (c .users .count) x) (and-true (formedButIndex c)))
+
+-- the index may be asked beside a condition that has the list's
+pub formed-by-list : (c : Condition) → (wellFormed (reindexed c) && indexGood c) ≡ wellFormed c
+unfolding wellFormed numbersGood scrollGood escapeGood
+formed-by-list c = ap (λ (t : Bool). t && indexGood c) (sym (indexed-formed (reindexed c) refl))

@@ -52,13 +52,18 @@ scrollGood c = not (c .scrolling) || eqb (c .mode) 3 && eqb (column c) 19
 unfoldable pub escapeGood : Condition → Bool
 escapeGood c = idle (c .pending) || absent 0x1B (c .users .count) (c .users .bytes)
 
--- fonts 0 or 1; user codes distinct, each fifth byte below 16, the other places 0; 0 to 4 bytes held, the others 0; the index
--- agrees with the list (02, W9)
-unfoldable pub wellFormed : Condition → Bool
-wellFormed c =
+-- fonts 0 or 1; user codes distinct, each fifth byte below 16, the other places 0; 0 to 4 bytes held, the others 0
+abbrev pub formedButIndex : Condition → Bool
+formedButIndex c =
     numbersGood c && scrollGood c && allUpTo 1 (c .fonts) && placesFormed 16 (c .users .count) (c .users .bytes)
     && heldFormed (heldOf (c .pending)) (c .held) && escapeGood c
-    && indexAgrees (c .index) (c .users .bytes) (c .users .count)
+
+-- the index agrees with the list (02, W9)
+abbrev pub indexGood : Condition → Bool
+indexGood c = indexAgrees (c .index) (c .users .bytes) (c .users .count)
+
+unfoldable pub wellFormed : Condition → Bool
+wellFormed c = formedButIndex c && indexGood c
 
 -- Power-up ---------------------------------------------------------------------------------------------------------------
 

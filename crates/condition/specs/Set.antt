@@ -312,3 +312,7 @@ goTo c x = withScrolling (withCursor c x) false
 -- the code b in the cell at x, in the selected font
 abbrev pub withCell : Condition → ℕ → ℕ → Condition
 withCell c x b = withCells c (set (c .codes) x b) (set (c .fonts) x (c .font))
+
+-- the condition with the index that its list gives, whatever its own is
+abbrev pub reindexed : Condition → Condition
+reindexed c = withUsers c (c .users)

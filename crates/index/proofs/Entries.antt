@@ -54,6 +54,10 @@ entry-most us count code = go (foundIn us count code) (λ k e. found-below us co
     go Missing h = omega arith
     go (At k) h = let l : k < limitOf us count = h k refl in omega arith
 
+-- entries built for any number of codes are as many
+pub as-many : (x us : List ℕ) (n count : ℕ) → x ≡ indexOf n us count → x ≡ indexOf (length x) us count
+as-many x us n count e = let l : length x ≡ n = ap length e ∙ index-length n us count in rw l e
+
 -- with no user characters every entry is 0
 pub index-none : (n : ℕ) (us : List ℕ) → indexOf n us 0 ≡ replicate n 0
 unfolding foundIn limitOf
@@ -69,24 +73,23 @@ looked-up (At k) = rw (ne-eqb (k + 1) 0 (λ e. omega arith))
 
 -- Agreement ----------------------------------------------------------------------------------------------------------------
 
-module _ (us : List ℕ) (count : ℕ) (x : List ℕ) where
-  pub agreed : x ≡ indexOf 256 us count → indexAgrees x us count ≡ true
+module _ (x us : List ℕ) (count : ℕ) where
+  pub index-agrees : x ≡ indexOf 256 us count → indexAgrees x us count ≡ true
   unfolding indexAgrees
-  agreed e = rw e (same-refl (indexOf 256 us count))
+  index-agrees e = rw e (same-refl (indexOf 256 us count))
 
-  pub agreeing : indexAgrees x us count ≡ true → x ≡ indexOf 256 us count
+  pub agrees-index : indexAgrees x us count ≡ true → x ≡ indexOf 256 us count
   unfolding indexAgrees
-  agreeing e = same-eq x (indexOf 256 us count) e
+  agrees-index e = same-eq x (indexOf 256 us count) e
+
+  -- in the request's words: an index agrees exactly where it has 256 entries, and that of each code is its place
+  pub agreement : (indexAgrees x us count ≡ true)
+      ↔ ((length x ≡ 256) × ((code : ℕ) → code < 256 → getD x code 0 ≡ entryOf (foundIn us count code)))
+  agreement = (
+    λ e. let a = agrees-index e in
+        (ap length a ∙ index-length 256 us count, λ code h. ap (λ (l : List ℕ). getD l code 0) a ∙ index-at 256 us count code h),
+    λ p. index-agrees (is-index 256 us count x (p .0) (p .1)),
+  )
 
 pub none-agrees : (us : List ℕ) → indexAgrees (replicate 256 0) us 0 ≡ true
-none-agrees us = agreed us 0 (replicate 256 0) (sym (index-none 256 us))
-
--- in the request's words: an index agrees exactly where it has 256 entries, and that of each code is its place
-pub agreement : (x us : List ℕ) (count : ℕ)
-    → (indexAgrees x us count ≡ true)
-    ↔ ((length x ≡ 256) × ((code : ℕ) → code < 256 → getD x code 0 ≡ entryOf (foundIn us count code)))
-agreement x us count = (
-  λ e. let a = agreeing us count x e in
-      (ap length a ∙ index-length 256 us count, λ code h. ap (λ (l : List ℕ). getD l code 0) a ∙ index-at 256 us count code h),
-  λ p. agreed us count x (is-index 256 us count x (p .0) (p .1)),
-)
+none-agrees us = index-agrees (replicate 256 0) us 0 (sym (index-none 256 us))

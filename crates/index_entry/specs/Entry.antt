@@ -45,8 +45,8 @@ abbrev pub litNumber : Condition → ℕ → ℕ
 litNumber c code = litAnswer c code .refusal
 
 -- the calls by number; the last three ask about the code in the oldest place
-unfoldable pub callNumber : ℕ → Condition → ℕ
-callNumber call c =
+unfoldable pub callRefusal : ℕ → Condition → ℕ
+callRefusal call c =
     cond (eqb call 0) (runNumber c)
     (cond (eqb call 1) (planNumber c)
     (cond (eqb call 2) (fontsNumber c)
@@ -59,5 +59,5 @@ callNumber call c =
     (litNumber c (getD (c .users .bytes) 0 0))))))))))
 
 -- 1 for entries that are not 256
-unfoldable pub entryNumber : ℕ → List ℕ → List ℕ → ℕ
-entryNumber call s x = cond (eqb (length x) 256) (callNumber call (withIndex (unpackedOf s) x)) 1
+unfoldable pub indexRefusal : ℕ → List ℕ → List ℕ → ℕ
+indexRefusal call s x = cond (eqb (length x) 256) (callRefusal call (withIndex (unpackedOf s) x)) 1

@@ -4,12 +4,12 @@ ghost use mathlib.Core.Path.{_≡_};
 ghost use lib.ListN.{length};
 ghost use Rattle.condition.specs.Set.{withIndex};
 ghost use Rattle.layout.specs.Layout.{unpackedOf};
-ghost use Rattle.index_entry.specs.Entry.{runNumber, planNumber, fontsNumber, reelNumber, recoverNumber};
-ghost use Rattle.index_entry.specs.Entry.{writeNumber, viewNumber, dotNumber, underlineNumber, litNumber, callNumber, entryNumber};
+ghost use Rattle.index_entry.specs.Entry.{runNumber, planNumber, fontsNumber, reelNumber, recoverNumber, writeNumber};
+ghost use Rattle.index_entry.specs.Entry.{viewNumber, dotNumber, underlineNumber, litNumber, callRefusal, indexRefusal};
 use condition::Condition;
 use interpreter::Tally;
 
-// Entries of another number than an index has, or bytes that hold no condition.
+// Entries of another number than an index has.
 const WRONG_LENGTH: u32 = 1;
 
 // The condition that stands in bytes, but with these entries.
@@ -111,7 +111,7 @@ fn of_lit(c: Condition, code: u8) -> u8
 }
 
 fn of_call(call: u32, c: Condition) -> u8
-    ensures { λ r. ⌜ r ≡ callNumber call c ⌝ }
+    ensures { λ r. ⌜ r ≡ callRefusal call c ⌝ }
 {
     let u = c.users;
     let bytes = u.bytes;
@@ -133,7 +133,7 @@ fn of_call(call: u32, c: Condition) -> u8
 // What a call, by its number, refuses the condition by that stands in bytes but has these entries; 0 for nothing.
 #[no_mangle]
 pub extern "C" fn index_refusal(call: u32, s: &[u8], entries: &[u8]) -> u32
-    ensures { λ r. ⌜ r ≡ entryNumber call (now (s .entry)) (now (entries .entry)) ⌝ }
+    ensures { λ r. ⌜ r ≡ indexRefusal call (now (s .entry)) (now (entries .entry)) ⌝ }
 {
     if entries.len() != index::ENTRIES {
         return WRONG_LENGTH;

@@ -1,4 +1,4 @@
--- Which bytes leave the user characters as they are, and so lent entries true.
+-- Lent entries: a code is looked up in them, and which bytes leave them true.
 use Prim.Native.Nat.{ℕ, _<_}
 use mathlib.Core.Path.{_≡_, refl, ap, _∙_}
 use mathlib.Core.Bool.{false, not}
@@ -10,23 +10,18 @@ use borrow.Author.Tests.{le-leb, ltb-false}
 use Rattle.laws.proofs.Tests.{clash, by-test}
 use Rattle.users.specs.declared.Users.{Users}
 use Rattle.users.specs.Users.{isUser, foundIn}
-use Rattle.index.specs.Index.{indexOf}
-use Rattle.index.proofs.Entries.{index-length, index-at, looked-up}
+use Rattle.index.proofs.Entries.{index-at, looked-up}
 use Rattle.condition.specs.declared.Condition.{Condition}
 use Rattle.condition.specs.declared.Figures.{Figures}
 use Rattle.condition.specs.Bytes.{positionOf, dataOf, stepOf}
 use Rattle.condition.proofs.Each.{step-by}
 use Rattle.condition.proofs.Aside.{left-aside, right-aside, down-aside, return-aside, clear-aside, write-aside}
 use Rattle.layout.specs.Layout.{conditionIn}
-use Rattle.inplace.specs.InPlace.{Indexed, altersUsers, Stepped}
+use Rattle.inplace.specs.InPlace.{LentIndex, altersUsers, Stepped}
 use Rattle.inplace.proofs.InPlace.{pending-at}
 
--- entries built for any number of codes are as many
-pub as-many : (x us : List ℕ) (n count : ℕ) → x ≡ indexOf n us count → x ≡ indexOf (length x) us count
-as-many x us n count e = let l : length x ≡ n = ap length e ∙ index-length n us count in rw l e
-
 -- a code is looked up in them
-pub looked-up-in : (x : List ℕ) (c : Condition) (code : ℕ) → Indexed x c → code < length x
+pub looked-up-in : (x : List ℕ) (c : Condition) (code : ℕ) → LentIndex x c → code < length x
     → not (eqb (getD x code 0) 0) ≡ isUser (c .users) code
 unfolding isUser
 looked-up-in x c code e h =
@@ -70,10 +65,10 @@ module _ (c : Condition) (b : ℕ) where
             (λ t. clash (le-leb 4 n (omega (arith, ltb-false n 4 t))) (rw e at a));
       })
 
-  pub unaltered : (x : List ℕ) (k : Condition) → altersUsers (c .pending) b ≡ false → k ≡ stepOf c b → Indexed x c → Indexed x k
+  pub unaltered : (x : List ℕ) (k : Condition) → altersUsers (c .pending) b ≡ false → k ≡ stepOf c b → LentIndex x c → LentIndex x k
   unaltered x k a e h = rw (ap (λ (d : Condition). d .users) e ∙ same-users a) h
 
 -- where nothing is half received no byte alters them
-pub idle-step : (s : List ℕ) (b : ℕ) (x : List ℕ) (k : Condition) (r : Figures) → getD s 13 0 ≡ 0 → Indexed x (conditionIn s)
-    → Stepped (conditionIn s) b k r → Stepped (conditionIn s) b k r × Indexed x k
+pub idle-step : (s : List ℕ) (b : ℕ) (x : List ℕ) (k : Condition) (r : Figures) → getD s 13 0 ≡ 0 → LentIndex x (conditionIn s)
+    → Stepped (conditionIn s) b k r → Stepped (conditionIn s) b k r × LentIndex x k
 idle-step s b x k r z h st = (st, unaltered (conditionIn s) b x k (rw (pending-at s, z)) (st .leaves) h)

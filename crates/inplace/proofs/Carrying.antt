@@ -12,20 +12,20 @@ use Rattle.row.specs.Row.{sameBytes}
 use Rattle.index.specs.Index.{indexOf, indexAgrees}
 use Rattle.condition.specs.declared.Condition.{Condition}
 use Rattle.condition.specs.Condition.{wellFormed}
-use Rattle.condition.specs.Set.{withUsers}
-use Rattle.condition.proofs.Good.{Sized, own-index, good}
+use Rattle.condition.specs.Set.{reindexed}
+use Rattle.condition.proofs.Good.{Sized, reindexed-same, good}
 use Rattle.condition.proofs.Rows.{formed-by-list}
 use Rattle.layout.specs.Layout.{packedOf, conditionIn, unpackedOf}
 use Rattle.layout.proofs.PackedBack.{enough, length-packed, packed-back}
 use Rattle.inplace.specs.declared.After.{After}
 use Rattle.inplace.specs.declared.Spent.{Spent}
-use Rattle.inplace.specs.InPlace.{Indexed, Carried}
+use Rattle.inplace.specs.InPlace.{LentIndex, Carried}
 use Rattle.inplace.specs.Carry.{carryRefusal, untouchedOf, carriedOf, afterOf}
 
 -- a run on the condition c, packed as p, with entries x that are built from p
 module _ (c : Condition) (p x : List ℕ) (s : Sized c) (e : p ≡ packedOf c) (n : length x ≡ 256)
-    (built : Indexed x (conditionIn p)) where
-  back : conditionIn p ≡ withUsers c (c .users)
+    (built : LentIndex x (conditionIn p)) where
+  back : conditionIn p ≡ reindexed c
   back = ap conditionIn e ∙ packed-back c s
 
   -- what is told of it in the bytes, and of its index beside the entries, is whether it is well formed
@@ -38,7 +38,7 @@ module _ (c : Condition) (p x : List ℕ) (s : Sized c) (e : p ≡ packedOf c) (
 
   module _ (w : wellFormed c ≡ true) where
     same : conditionIn p ≡ c
-    same = back ∙ own-index c (good c w .indexed)
+    same = back ∙ reindexed-same c (good c w .indexed)
 
     pub starts : wellFormed (conditionIn p) ≡ true
     starts = ap wellFormed same ∙ w

@@ -46,8 +46,8 @@ abbrev pub resetIn : Condition → ℕ → Condition
 resetIn c f = withUsers (withCells (powerUp f) (c .codes) (c .fonts)) (usersIn (c .users .bytes) 0)
 
 -- lent entries, as many as there are, are those of the condition's list
-abbrev pub Indexed : List ℕ → Condition → Type 0
-Indexed x c = x ≡ indexOf (length x) (c .users .bytes) (c .users .count)
+abbrev pub LentIndex : List ℕ → Condition → Type 0
+LentIndex x c = x ≡ indexOf (length x) (c .users .bytes) (c .users .count)
 
 -- the byte may change the user characters: Initialise, and the fifth byte of one
 abbrev pub altersUsers : Pending → ℕ → Bool

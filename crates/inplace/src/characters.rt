@@ -4,7 +4,7 @@ ghost use Prim.Native.Nat.{_≤_, _<_};
 ghost use lib.ListN.{length, getD, replicate};
 ghost use Rattle.users.specs.Users.{isUser};
 ghost use Rattle.layout.specs.Layout.{conditionIn};
-ghost use Rattle.inplace.specs.InPlace.{Indexed, altersUsers, definedIn, withUserBytes};
+ghost use Rattle.inplace.specs.InPlace.{LentIndex, altersUsers, definedIn, withUserBytes};
 use layout::COUNT;
 use layout::HELD;
 use layout::HOLDS;
@@ -12,9 +12,10 @@ use layout::KIND;
 use layout::PACKED;
 use layout::USERS;
 
-// A user character sits on the code: it is looked up where there is an entry for it, and searched for where there is none.
+// A user character sits on the code: it is looked up where there is an entry for it, and searched for where there is none. (Fewer
+// than 256 may be lent: only codes below 20h are asked for.)
 pub(crate) fn is_user(s: &[u8], index: &[u8], code: u8) -> bool
-    requires { ⌜ (200 ≤ length (now s)) × Indexed (now index) (conditionIn (now s)) ⌝ }
+    requires { ⌜ (200 ≤ length (now s)) × LentIndex (now index) (conditionIn (now s)) ⌝ }
     ensures { λ r. ⌜ r ≡ isUser (conditionIn (now (s .entry)) .users) code ⌝ }
 {
     let at = code as usize;
@@ -45,7 +46,7 @@ pub(crate) fn alters(s: &[u8], b: u8) -> bool
 // The entries anew, from the list.
 pub(crate) fn reindex(s: &[u8], index: &mut [u8])
     requires { ⌜ 200 ≤ length (now s) ⌝ }
-    ensures { λ _. ⌜ Indexed (now (index .exit)) (conditionIn (now (s .entry))) ⌝ }
+    ensures { λ _. ⌜ LentIndex (now (index .exit)) (conditionIn (now (s .entry))) ⌝ }
 {
     let n = s[COUNT];
     index::build(&s[USERS..PACKED], n, index);

@@ -1,4 +1,5 @@
-// What bytes do to a condition, worked out in place on the condition packed in 200 bytes.
+// What bytes do to a condition, worked out in place on the condition packed in 200 bytes, with the index of its user codes lent
+// beside them.
 ghost use mathlib.Core.Path.{_≡_};
 ghost use Rattle.inplace.specs.Carry.{untouchedOf, afterOf};
 use characters::reindex;
@@ -44,8 +45,9 @@ fn untouched(refusal: u8, c: Condition) -> After
     }
 }
 
-// The bytes are carried out in turn. 3 for a condition that is not well formed, 4 for more than 32,768 bytes. Whether it is well
-// formed is told in its bytes, and of its index beside the one that the run is lent: a test by value would copy all of it.
+// The bytes are carried out in turn. 3 for a condition that is not well formed, 4 for more than 32,768 bytes. Well-formedness
+// is tested in the packed bytes, and the condition's index against the one that is built for the run: a test by value would copy
+// the whole condition.
 pub fn carry(c: Condition, bytes: &[u8]) -> After
     ensures { λ r. ⌜ r ≡ afterOf c (now (bytes .entry)) ⌝ }
 {

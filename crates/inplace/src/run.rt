@@ -9,7 +9,7 @@ ghost use Rattle.condition.specs.Condition.{wellFormed};
 ghost use Rattle.condition.specs.Bytes.{writeOf, stepOf};
 ghost use Rattle.condition.specs.Busy.{writeBusy, quickFigure};
 ghost use Rattle.layout.specs.Layout.{conditionIn};
-ghost use Rattle.inplace.specs.InPlace.{Indexed, Stepped, Carried};
+ghost use Rattle.inplace.specs.InPlace.{LentIndex, Stepped, Carried};
 use crate::Spent;
 use crate::busy::continued_busy;
 use crate::busy::control_busy;
@@ -37,12 +37,12 @@ fn character(s: &mut [u8], b: u8) -> u8
 }
 
 // What a byte that continues a half-received command does; the answer is its quick busy figure. The entries are built anew only
-// where it changes the user characters.
+// where it may change the user characters.
 fn parameter(s: &mut [u8], index: &mut [u8], b: u8) -> u8
-    requires { ⌜ (200 ≤ length (now s)) × (0 < getD (now s) 13 0) × Indexed (now index) (conditionIn (now s)) ⌝ }
+    requires { ⌜ (200 ≤ length (now s)) × (0 < getD (now s) 13 0) × LentIndex (now index) (conditionIn (now s)) ⌝ }
     ensures { λ r. ⌜ (conditionIn (now (s .exit)) ≡ stepOf (conditionIn (now (s .entry))) b)
         × (r ≡ quickFigure (conditionIn (now (s .entry))) b)
-        × Indexed (now (index .exit)) (conditionIn (now (s .exit))) ⌝ }
+        × LentIndex (now (index .exit)) (conditionIn (now (s .exit))) ⌝ }
 {
     let figure = continued_busy(s, b);
     let anew = alters(s, b);
@@ -56,9 +56,9 @@ fn parameter(s: &mut [u8], index: &mut [u8], b: u8) -> u8
 // What a byte does; the answer is its busy figures. Whether flickerless is on is looked at before the byte is carried out, which
 // may change it. Printable bytes are told first: they are the most.
 fn step(s: &mut [u8], index: &mut [u8], b: u8) -> Figures
-    requires { ⌜ (200 ≤ length (now s)) × (getD (now s) 3 0 < 40) × Indexed (now index) (conditionIn (now s)) ⌝ }
+    requires { ⌜ (200 ≤ length (now s)) × (getD (now s) 3 0 < 40) × LentIndex (now index) (conditionIn (now s)) ⌝ }
     ensures { λ r. ⌜ Stepped (conditionIn (now (s .entry))) b (conditionIn (now (s .exit))) r
-        × Indexed (now (index .exit)) (conditionIn (now (s .exit))) ⌝ }
+        × LentIndex (now (index .exit)) (conditionIn (now (s .exit))) ⌝ }
 {
     let on = s[FLICKERLESS];
     let kind = s[KIND];
@@ -85,10 +85,10 @@ fn one_if(on: u8) -> u32
 // What bytes do, in turn. The entries stay those of the list.
 pub(crate) fn run_in(s: &mut [u8], index: &mut [u8], bytes: &[u8]) -> Spent
     requires { ⌜ (200 ≤ length (now s)) × (wellFormed (conditionIn (now s)) ≡ true) × (length (now bytes) ≤ 32768)
-        × Indexed (now index) (conditionIn (now s)) ⌝ }
+        × LentIndex (now index) (conditionIn (now s)) ⌝ }
     ensures { λ r. ⌜ Carried (conditionIn (now (s .entry))) (now (bytes .entry))
         (conditionIn (now (s .exit))) r
-        × Indexed (now (index .exit)) (conditionIn (now (s .exit))) ⌝ }
+        × LentIndex (now (index .exit)) (conditionIn (now (s .exit))) ⌝ }
 {
     let mut busy: u32 = 0;
     let mut flickerless: u32 = 0;

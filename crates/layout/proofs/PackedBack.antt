@@ -13,10 +13,10 @@ use Rattle.condition.specs.declared.Condition.{Condition}
 use Rattle.condition.specs.declared.Pending.{Pending}
 use Rattle.condition.specs.declared.Pending.the-variants.{Nothing, Escape, Position, Luminance, Speed, UserCode, UserData}
 use Rattle.condition.specs.Condition.{heldOf, powerUp}
-use Rattle.condition.specs.Set.{withUsers}
+use Rattle.condition.specs.Set.{reindexed}
 use Rattle.layout.specs.Layout.{kindOf, codeOf, headOf, packedOf, pendingOf, conditionIn, unpackedOf}
 use Rattle.laws.proofs.Flags.{flag-back}
-use Rattle.condition.proofs.Good.{Sized, Indexed, own-index}
+use Rattle.condition.proofs.Good.{Sized, Indexed, reindexed-same}
 use Rattle.laws.proofs.Lists.{part-length, gets-all}
 use Rattle.layout.proofs.Parts.{copied, cut-parts, in-codes, in-fonts, in-users}
 
@@ -96,7 +96,7 @@ pending-back UserCode = refl
 pending-back (UserData x n) = refl
 
 -- whatever stands behind them, the packed bytes are read as the condition that they were packed from, but with the list's index
-list-back : (c : Condition) (r : List ℕ) → Sized c → conditionIn (packedOf c ++ r) ≡ withUsers c (c .users)
+list-back : (c : Condition) (r : List ℕ) → Sized c → conditionIn (packedOf c ++ r) ≡ reindexed c
 unfolding conditionIn packedOf headOf
 list-back c r z =
     let u : List ℕ = c .users .bytes in
@@ -128,9 +128,9 @@ list-back c r z =
 
 -- which is its own where that is the list's
 pub back-with : (c : Condition) (r : List ℕ) → Sized c → Indexed c → conditionIn (packedOf c ++ r) ≡ c
-back-with c r z x = list-back c r z ∙ own-index c x
+back-with c r z x = list-back c r z ∙ reindexed-same c x
 
-pub packed-back : (c : Condition) → Sized c → conditionIn (packedOf c) ≡ withUsers c (c .users)
+pub packed-back : (c : Condition) → Sized c → conditionIn (packedOf c) ≡ reindexed c
 packed-back c z = ap conditionIn (sym (append-nil (packedOf c))) ∙ list-back c [] z
 
 -- and the condition that stands in bytes, packed again, differs from them in its head alone

@@ -135,7 +135,7 @@ pub fn up_to(n: u8, s: &[u8]) -> bool
     most <= n
 }
 
-// Two rows are the same. All of them is looked at: a loop that stops early takes longer.
+// Two rows are the same. All bytes are looked at: a loop that stops early takes longer.
 pub fn same(a: &[u8], b: &[u8]) -> bool
     ensures { λ r. ⌜ r ≡ sameBytes (now (a .entry)) (now (b .entry)) ⌝ }
 {

@@ -1,5 +1,5 @@
 use borrow.Author.Tests.{ne-eqb}
-use Rattle.index_entry.specs.Entry.{callNumber}
+use Rattle.index_entry.specs.Entry.{callRefusal}
 use borrow.Author.Needs.{needs}
 use Rattle.index_entry.proofs.of_call.Statement.{statement}
 use Rattle.index_entry.proofs.of_call.Tie as tie
@@ -38,43 +38,43 @@ of-lit-requires : tie.Need-of-lit-requires
 of-lit-requires c κs = search needs
 
 returns : tie.Need-returns
-unfolding callNumber
+unfolding callRefusal
 returns c = rw (c .of-run .ensures, c .before .match .keys1)
 
 returns-2 : tie.Need-returns-2
-unfolding callNumber
+unfolding callRefusal
 returns-2 c = rw (c .of-plan .ensures, c .before .match .keys2)
 
 returns-3 : tie.Need-returns-3
-unfolding callNumber
+unfolding callRefusal
 returns-3 c = rw (c .of-fonts .ensures, c .before .match .keys3)
 
 returns-4 : tie.Need-returns-4
-unfolding callNumber
+unfolding callRefusal
 returns-4 c = rw (c .of-reel .ensures, c .before .match .keys4)
 
 returns-5 : tie.Need-returns-5
-unfolding callNumber
+unfolding callRefusal
 returns-5 c = rw (c .of-recover .ensures, c .before .match .keys5)
 
 returns-6 : tie.Need-returns-6
-unfolding callNumber
+unfolding callRefusal
 returns-6 c = rw (c .of-write .ensures, c .before .match .keys6)
 
 returns-7 : tie.Need-returns-7
-unfolding callNumber
+unfolding callRefusal
 returns-7 c = rw (c .of-view .ensures, c .before .match .keys7)
 
 returns-8 : tie.Need-returns-8
-unfolding callNumber
+unfolding callRefusal
 returns-8 c = rw (c .of-dot .ensures, c .before .match .keys8)
 
 returns-9 : tie.Need-returns-9
-unfolding callNumber
+unfolding callRefusal
 returns-9 c = rw (c .of-underline .ensures, c .before .match .keys9)
 
 returns-10 : tie.Need-returns-10
-unfolding callNumber
+unfolding callRefusal
 returns-10 c =
     let r = c .before .match .rest in
     rw (c .of-lit .ensures, ne-eqb _ _ (r .0 .0 .0 .0 .0 .0 .0 .0 .1), ne-eqb _ _ (r .0 .0 .0 .0 .0 .0 .0 .1))

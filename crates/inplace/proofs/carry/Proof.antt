@@ -1,5 +1,5 @@
 use mathlib.Core.Path.{_≡_, refl, sym, _∙_}
-use mathlib.Core.Bool.{_&&_}
+use mathlib.Core.Bool.{true, _&&_}
 use borrow.Author.Tests.{not-true, not-false}
 use Rattle.condition.specs.Condition.{wellFormed}
 use Rattle.condition.proofs.Good.{Sized}
@@ -22,6 +22,9 @@ formed c =
     let p = x .before .before .before in
     told _ _ _ (sized (p .before .before)) (p .packed .ensures) (search needs) (x .reindex .ensures) _ _ (c .is-formed .ensures)
     (c .before .before .same .ensures)
+
+well : (c : tie.Else1) → wellFormed (start (c .before) .args .t1) ≡ true
+well c = sym (formed (c .before)) ∙ not-false _ (c .if1 .left)
 
 packed-requires : tie.Need-packed-requires
 packed-requires c κs = search needs
@@ -59,7 +62,7 @@ untouched-requires-2 c κs = search needs
 
 returns-2 : tie.Need-returns-2
 returns-2 c =
-    too-long _ _ _ (sym (formed (c .before .before .before)) ∙ not-false _ (c .before .before .if1 .left)) (c .before .if2 .taken)
+    too-long _ _ _ (well (c .before .before)) (c .before .if2 .taken)
     (c .untouched2 .ensures)
 
 slice-aggregate-run-in : tie.Need-slice-aggregate-run-in
@@ -73,7 +76,7 @@ run-in-requires c κs =
     let k = c .before .before .before .before in
     let x = k .before .before .before .before .before .before .before .before in
     let p = x .before .before .before in
-    let w = sym (formed k) ∙ not-false _ (c .before .before .before .if1 .left) in
+    let w = well (c .before .before .before) in
     let e = starts _ _ _ (sized (p .before .before)) (p .packed .ensures) (search needs) (x .reindex .ensures) w in
     (search needs, e, search needs, x .reindex .ensures)
 
@@ -89,7 +92,7 @@ returns-3 c =
     let k = t .before .before in
     let x = k .before .before .before .before .before .before .before .before in
     let p = x .before .before .before in
-    let w = sym (formed k) ∙ not-false _ (t .before .if1 .left) in
+    let w = well (t .before) in
     carried _ _ _ w (t .if2 .left) refl
     (carries _ _ _ (sized (p .before .before)) (p .packed .ensures) (search needs) (x .reindex .ensures) w _ _ _ _
     (c .unpacked .ensures ∙ enough _ (search needs)) (c .before .before .before .before .run-in .ensures .0))

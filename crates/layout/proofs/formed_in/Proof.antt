@@ -1,5 +1,6 @@
+use mathlib.Core.Path.{_∙_}
 use Rattle.layout.specs.Layout.{conditionIn}
-use Rattle.condition.proofs.Rows.{indexed-rows}
+use Rattle.condition.proofs.Rows.{rows-law, indexed-formed}
 use Rattle.layout.proofs.PackedBack.{sized-in, indexed-in}
 use borrow.Author.Needs.{needs}
 use Rattle.layout.proofs.formed_in.Statement.{statement}
@@ -60,7 +61,7 @@ returns c =
     let s = p .before .before .before .before .before .args .s .now in
     let z = sized-in s (search needs) in
     rw (c .rows-good .ensures, c .before .before .before .before .before .numbers-in .ensures, p .pending-in .ensures)
-    (indexed-rows (conditionIn s) (indexed-in s) (z .fonts-40) (z .users-96) (z .held-4))
+    (rows-law (conditionIn s) (z .fonts-40) (z .users-96) (z .held-4) ∙ indexed-formed (conditionIn s) (indexed-in s))
 
 pub formed-in-spec : {M : Type 1} → statement M
 formed-in-spec =

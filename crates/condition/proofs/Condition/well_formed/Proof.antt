@@ -1,5 +1,7 @@
-use mathlib.Core.Path.{_≡_}
+use mathlib.Core.Path.{_≡_, ap}
+use mathlib.Core.Bool.{Bool, _&&_}
 use lib.ListN.{length}
+use Rattle.condition.specs.Condition.{indexGood, wellFormed}
 use Rattle.condition.proofs.Rows.{rows-law}
 use borrow.Author.Needs.{needs}
 use Rattle.condition.proofs.Condition.well_formed.Statement.{statement}
@@ -37,12 +39,14 @@ agrees-requires : tie.Need-agrees-requires
 agrees-requires c κs = search needs
 
 returns : tie.Need-returns
+unfolding wellFormed
 returns c =
     let r = c .before .before .before in
     let n = r .before .before .before .before .before in
     let a = n .before .before .before .before .before .before in
     rw (c .agrees .ensures, r .rows-good .ensures, r .before .before .before .before .scroll-good .ensures)
-    (rw (n .numbers-good .ensures) (rows-law (a .args .self) (sized a .0) (sized a .1) (sized a .2)))
+    (rw (n .numbers-good .ensures)
+    (ap (λ (t : Bool). t && indexGood (a .args .self)) (rows-law (a .args .self) (sized a .0) (sized a .1) (sized a .2))))
 
 pub well-formed-spec : {M : Type 1} → statement M
 well-formed-spec =

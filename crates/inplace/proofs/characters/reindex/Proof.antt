@@ -1,5 +1,5 @@
 use Rattle.layout.specs.Layout.{conditionIn}
-use Rattle.inplace.proofs.Altering.{as-many}
+use Rattle.index.proofs.Entries.{as-many}
 use borrow.Author.Needs.{needs}
 use Rattle.inplace.proofs.characters.reindex.Statement.{statement}
 use Rattle.inplace.proofs.characters.reindex.Tie as tie

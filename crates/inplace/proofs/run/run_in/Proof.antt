@@ -4,7 +4,7 @@ use native.Mathlib.Omega.{arith}
 use borrow.Author.Needs.{needs}
 use lib.ListN.{length}
 use Rattle.layout.specs.Layout.{conditionIn}
-use Rattle.inplace.specs.InPlace.{Indexed}
+use Rattle.inplace.specs.InPlace.{LentIndex}
 use Rattle.inplace.proofs.Running.{Going, going-starts, going-place, going-most, going-turns, going-ends}
 use Rattle.inplace.proofs.run.run_in.Statement.{statement}
 use Rattle.inplace.proofs.run.run_in.Tie as tie
@@ -12,7 +12,7 @@ use Rattle.inplace.proofs.run.run_in.Tie as tie
 abbrev Inv-loop : tie.InvT-loop
 Inv-loop s₀ index₀ bytes busy₀ flickerless₀ worst₀ i₀ s index busy flickerless worst i =
     Going (conditionIn s₀) bytes s busy flickerless worst i × (length bytes ≤ 32768) × (length s ≡ length s₀)
-    × (length index ≡ length index₀) × Indexed index (conditionIn s)
+    × (length index ≡ length index₀) × LentIndex index (conditionIn s)
 
 abbrev μ-loop : tie.MeasureT-loop
 μ-loop s₀ index₀ bytes busy₀ flickerless₀ worst₀ i₀ s index busy flickerless worst i = length bytes - i
