@@ -1,6 +1,6 @@
 #!/bin/sh
 # Builds and runs one test, or a measure: tests/run.sh NAME. See tests/README.md. The gate runs these:
-tests='docs wrong self show tell show_lounge host questions plans fonts reels recovery lounge index alike c-host example dump station install stack'
+tests='docs wrong self show tell show_lounge salvage host questions plans fonts reels recovery lounge index alike c-host example dump station install stack'
 set -eu
 cd "$(dirname "$0")/.."
 case ${1:-} in
@@ -97,7 +97,7 @@ self)
     alone self
     "$out/self"
     ;;
-show | tell | show_lounge)
+show | tell | show_lounge | salvage)
     program "$1"
     alone "$1"
     # shellcheck disable=SC2086

@@ -1,10 +1,11 @@
-//! The 20x2 display module, written from its papers alone (document 01, the scope, requests W1 to W7 of
-//! document 02, and source 000, the module's specification) and not from the product's code. The product
+//! The 20x2 display module, written from its papers alone (document 01, the scope, requests W1 to W7 and
+//! W10 of document 02, and source 000, the module's specification) and not from the product's code. The product
 //! is compared with it.
 //!
 //! In this order: the condition; what a byte does, with its busy time; the run and its tally; what a
 //! cell shows; the block; the planner of one font; the planner of two fonts, by search; two searches that
-//! confirm the fewest bytes of both; a reel of pictures; the way back to power-up, by search; the host calls.
+//! confirm the fewest bytes of both; a reel of pictures; the way back to power-up, by search; the host calls;
+//! what `show` prints; the salvage of a block file.
 #![allow(dead_code)]
 
 pub const CELLS: usize = 40;
@@ -1406,5 +1407,63 @@ pub fn show(input: &[u8]) -> String {
                 t.worst
             )
         }
+    }
+}
+
+// ------------------------------------------------------------------------ the salvage of a block file
+
+/// The most whole blocks of a file that is salvaged.
+pub const MOST_BLOCKS: usize = 10_000;
+
+/// What becomes of a file of blocks.
+#[derive(Debug, PartialEq, Eq)]
+pub struct Salvaged {
+    /// The second file; none where the first is refused.
+    pub second: Option<Vec<u8>>,
+    /// All that is printed.
+    pub printed: String,
+}
+
+/// Request W10. A good block is copied, any other replaced by the last good one before it or by power-up for font 0;
+/// what is left behind the last whole block is dropped.
+pub fn salvage(file: &[u8]) -> Salvaged {
+    let blocks = file.chunks_exact(BLOCK);
+    let tail = blocks.remainder().len();
+    if blocks.len() > MOST_BLOCKS {
+        return Salvaged {
+            second: None,
+            printed: "refused 4\n".to_string(),
+        };
+    }
+    let mut second = Vec::new();
+    let mut printed = String::new();
+    let mut last_good: Option<(usize, &[u8])> = None;
+    let (mut kept, mut changed) = (0, 0);
+    for (number, block) in blocks.enumerate() {
+        if Condition::from_block(block).is_ok() {
+            kept += 1;
+            last_good = Some((number, block));
+            second.extend_from_slice(block);
+            continue;
+        }
+        changed += 1;
+        match last_good {
+            Some((good, copy)) => {
+                printed += &format!("block {} repeated {}\n", number, good);
+                second.extend_from_slice(copy);
+            }
+            None => {
+                printed += &format!("block {} power-up\n", number);
+                second.extend_from_slice(&Condition::power_up(0).to_block());
+            }
+        }
+    }
+    if tail > 0 {
+        printed += &format!("tail {} dropped\n", tail);
+    }
+    printed += &format!("kept {} changed {}\n", kept, changed);
+    Salvaged {
+        second: Some(second),
+        printed,
     }
 }

@@ -1,5 +1,5 @@
 //! The independent program alone: the fifteen cases of the bench sheet, the sample, and the rules of
-//! document 01 and of requests W1 to W8 that it can be held to by itself. It uses nothing of the product but the
+//! document 01 and of requests W1 to W8 and W10 that it can be held to by itself. It uses nothing of the product but the
 //! table of move lengths, which is data.
 
 mod inputs;
@@ -712,6 +712,73 @@ fn recoveries(r: &mut Report) {
     }
 }
 
+/// Files of blocks: the first, where a to d are good blocks, p is that of power-up for font 0 and x and y are bad; its
+/// tail; the second; and all that is printed.
+fn salvages(r: &mut Report) {
+    type Example<'a> = (&'a str, usize, &'a str, &'a str);
+    let most = "a".repeat(10_000);
+    let examples: [Example; 11] = [
+        ("", 0, "", "kept 0 changed 0\n"),
+        ("", 511, "", "tail 511 dropped\nkept 0 changed 0\n"),
+        ("a", 0, "a", "kept 1 changed 0\n"),
+        ("x", 0, "p", "block 0 power-up\nkept 0 changed 1\n"),
+        ("xy", 1, "pp", "block 0 power-up\nblock 1 power-up\ntail 1 dropped\nkept 0 changed 2\n"),
+        // the number is that of the last good block, not of its copy
+        (
+            "axybx",
+            17,
+            "aaabb",
+            "block 1 repeated 0\nblock 2 repeated 0\nblock 4 repeated 3\ntail 17 dropped\nkept 2 changed 3\n",
+        ),
+        ("xbxa", 0, "pbba", "block 0 power-up\nblock 2 repeated 1\nkept 2 changed 2\n"),
+        // the same block again is good again, and a good block of power-up is no replacement
+        ("ccxpx", 0, "cccpp", "block 2 repeated 1\nblock 4 repeated 3\nkept 3 changed 2\n"),
+        ("dddx", 0, "dddd", "block 3 repeated 2\nkept 3 changed 1\n"),
+        (&most, 0, &most, "kept 10000 changed 0\n"),
+        (&most, 511, &most, "tail 511 dropped\nkept 10000 changed 0\n"),
+    ];
+    let block = |letter: char| match letter {
+        'a' => after(&[0x41]).0.to_block(),
+        'b' => after(&[0x1B, 0x43, 0x1B, 1, 2, 3, 4, 5]).0.to_block(),
+        'c' => after(&[0x13, 0x1B, 0x48, 0x13, 0x43]).0.to_block(),
+        'd' => Condition::power_up(1).to_block(),
+        'p' => Condition::power_up(0).to_block(),
+        'x' => [0; BLOCK],
+        _ => {
+            // mode 0, under a right check
+            let mut b = Condition::power_up(0).to_block();
+            b[4] = 0;
+            seal(&mut b);
+            b
+        }
+    };
+    let file = |letters: &str, tail: usize| {
+        let mut bytes: Vec<u8> = letters.chars().flat_map(block).collect();
+        bytes.resize(bytes.len() + tail, 0x56);
+        bytes
+    };
+    for (first, tail, second, printed) in examples {
+        let right = Salvaged {
+            second: Some(file(second, 0)),
+            printed: printed.to_string(),
+        };
+        r.cases += 1;
+        r.expect(salvage(&file(first, tail)) == right, || {
+            format!("the salvage of '{:.9}' and {} bytes", first, tail)
+        });
+    }
+    for (more, tail) in [("a", 0), ("x", 511)] {
+        let right = Salvaged {
+            second: None,
+            printed: "refused 4\n".to_string(),
+        };
+        r.cases += 1;
+        r.expect(salvage(&file(&(most.clone() + more), tail)) == right, || {
+            "10,001 blocks".to_string()
+        });
+    }
+}
+
 /// Every byte keeps a condition well formed; blocks read back the same; runs in pieces end alike.
 fn conditions(r: &mut Report) {
     let mut rng = Rng::new(1);
@@ -1078,14 +1145,15 @@ fn main() {
     reels(&mut r, &moves);
     reels_answered(&mut r, &moves);
     recoveries(&mut r);
+    salvages(&mut r);
     conditions(&mut r);
     lounge_examples(&mut r);
     lounge_users(&mut r);
     lounge_answers(&mut r);
     lounge_conditions(&mut r);
     // the bench sheet, the sample, examples by hand, ways, plans of two fonts, plans from a clear, refusals,
-    // reels and their answers, ways back, conditions and each byte on each
-    let first = 15 + 2 + 31 + 1_603 + 2_017 + 12 + 15 + 10 + 22 + 14 + 3_000 + 768_000;
+    // reels and their answers, ways back, salvages, conditions and each byte on each
+    let first = 15 + 2 + 31 + 1_603 + 2_017 + 12 + 15 + 10 + 22 + 14 + 13 + 3_000 + 768_000;
     // the old lounge module: examples, user characters and what is half received, answers, conditions, pairs
     let second = 50 + 14 + 24 + 3_000 + 140_000;
     r.end("self", first + second);

@@ -1,6 +1,6 @@
 -- Text that is added piece by piece.
 use Prim.Native.Nat.{ℕ, zero, suc, _+_, _-_, _*_, _/_, _%_, _^_, _≤_, _<_, min}
-use mathlib.Core.Path.{_≡_, sym, ap, _∙_}
+use mathlib.Core.Path.{_≡_, refl, sym, ap, _∙_}
 use mathlib.Core.Bool.{Bool, true, false, cond}
 use mathlib.Core.List.{List, [], _∷_, _++_, append-assoc, append-nil}
 use native.Mathlib.Omega.{arith}
@@ -90,12 +90,21 @@ pub each-added : {a b d : List ℕ} {k m r : ℕ} (f : ℕ → List ℕ) (n : �
 unfolding each
 each-added f n p q = rw (add-one n) (both-added p q)
 
-pub each-length : (f : ℕ → List ℕ) (m n : ℕ) → ((i : ℕ) → length (f i) ≤ m) → length (each f n) ≤ n * m
+pub each-below : (f : ℕ → List ℕ) (m n : ℕ) → ((i : ℕ) → i < n → length (f i) ≤ m) → length (each f n) ≤ n * m
 unfolding each
-each-length f m zero h = omega arith
-each-length f m (suc n) h =
-    let l : length (each f n) ≤ n * m = each-length f m n h in
-    omega (arith, length-append (each f n) (f n), h n)
+each-below f m zero h = omega arith
+each-below f m (suc n) h =
+    let l : length (each f n) ≤ n * m = each-below f m n (λ i e. h i (omega arith)) in
+    omega (arith, length-append (each f n) (f n), h n (omega arith))
+
+pub each-length : (f : ℕ → List ℕ) (m n : ℕ) → ((i : ℕ) → length (f i) ≤ m) → length (each f n) ≤ n * m
+each-length f m n h = each-below f m n (λ i _. h i)
+
+-- rows of the same texts
+pub each-same : (f g : ℕ → List ℕ) (n : ℕ) → ((i : ℕ) → i < n → f i ≡ g i) → each f n ≡ each g n
+unfolding each
+each-same f g zero h = refl
+each-same f g (suc n) h = rw (each-same f g n (λ i e. h i (omega arith)), h n (omega arith))
 
 -- a text with room for all of it
 pub whole-added : {a b : List ℕ} {x : List ℕ} {r : ℕ} → Added a 0 x b r → length x ≤ length a → (take r b ≡ x) × (r ≤ length b)
@@ -168,6 +177,20 @@ decimal-in-length (suc f) n =
 pub decimal-length : (n : ℕ) → length (decimalOf n) ≤ 20
 unfolding decimalOf
 decimal-length n = decimal-in-length 20 n
+
+-- and no more digits than a power of ten above it has zeros
+decimal-in-below : (f d n : ℕ) → n < 10 ^ suc d → length (decimalIn f n) ≤ suc d
+unfolding decimalIn
+decimal-in-below zero d n h = omega arith
+decimal-in-below (suc f) zero n h = rw (lt-ltb n 10 h) (omega arith)
+decimal-in-below (suc f) (suc d) n h =
+    let fewer = decimal-in-below f d (n / 10) (div-lt-iff-lt-mul (lit< tt) .1 (rw (pow-suc 10 (suc d)) at h)) in
+    by-test (λ (x : List ℕ). length x ≤ suc (suc d)) (ltb n 10) (λ _. omega arith)
+    (λ _. omega (arith, fewer, length-append (decimalIn f (n / 10)) (digit (n % 10) ∷ [])))
+
+pub decimal-below : (d n : ℕ) → n < 10 ^ suc d → length (decimalOf n) ≤ suc d
+unfolding decimalOf
+decimal-below d n h = decimal-in-below 20 d n h
 
 -- three bytes for each code
 pub hex-length : (codes : List ℕ) → length (hexLine codes) ≤ length codes * 3

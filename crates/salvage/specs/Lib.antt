@@ -1,0 +1,2 @@
+pub mod Salvage
+pub mod Steps

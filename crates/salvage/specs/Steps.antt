@@ -1,0 +1,69 @@
+-- How the file is gone through, a block at a time. Of each block only its source is kept: which block of the file was written for
+-- it, by one more than that block's number, or 0 for the power-up block. The report is made of the sources at the end.
+use Prim.Native.Nat.{ℕ, suc, _+_, _-_, _*_, _≤_, _<_}
+use mathlib.Core.Path.{_≡_}
+use mathlib.Core.Bool.{Bool, cond}
+use mathlib.Core.List.{List, [], _++_}
+use lib.ListN.{length, take, getD}
+use lib.Dec.{eqb}
+use Rattle.block.specs.Reading.{readRefusal}
+use Rattle.lines.specs.Lines.{each, refusedLine}
+use Rattle.salvage.specs.Salvage.{wholeIn, tailIn, blockAt, lastGood, standIn, writtenFor, changeLine, tailLine, countOf}
+use Rattle.salvage.specs.Salvage.{endLine, salvageRefusal, salvageOf}
+
+-- A step through a file, at block k: r is its source, and `after` is what is written for it. That then stands for what comes next.
+pub record Step (file : List ℕ) (k : ℕ) (after : List ℕ) (r : ℕ) : Type 0 where
+  pub source : r ≡ lastGood file (suc k)
+  pub written : after ≡ writtenFor file k
+  pub stands : after ≡ standIn file r
+
+-- A block that was judged, where `last`, the block `source`, stood for what came before it. That is a step through any file in which
+-- the block has this number.
+pub record Judged (block : List ℕ) (number : ℕ) (last : List ℕ) (source : ℕ) (after : List ℕ) (r : ℕ) : Type 0 where
+  pub answer : r ≡ cond (eqb (readRefusal block) 0) (number + 1) source
+  pub left : after ≡ cond (eqb (readRefusal block) 0) block last
+  pub step : (file : List ℕ) → blockAt file number ≡ block → source ≡ lastGood file number → last ≡ standIn file source
+      → Step file number after r
+
+-- the sources of the first n blocks of a file
+abbrev pub SourcesOf : List ℕ → ℕ → List ℕ → Type 0
+SourcesOf file n sources = (k : ℕ) → k < n → getD sources k 0 ≡ lastGood file (suc k)
+
+-- What was read in n blocks, whatever it was: the sources are those of a file of these blocks.
+pub record Sourced (n : ℕ) (sources : List ℕ) : Type 0 where
+  pub file : List ℕ
+  pub long : length file ≡ n * 512
+  pub each : SourcesOf file n sources
+
+-- What is printed, by the sources -------------------------------------------------------------------------------------------------
+
+-- block k is its own source
+abbrev pub ownSource : List ℕ → ℕ → Bool
+ownSource sources k = eqb (getD sources k 0) (k + 1)
+
+unfoldable pub lineBy : ℕ → ℕ → List ℕ
+lineBy k source = cond (eqb source (k + 1)) [] (changeLine k source)
+
+unfoldable pub reportBy : List ℕ → ℕ → ℕ → List ℕ
+reportBy sources n tail =
+    each (λ k. lineBy k (getD sources k 0)) n
+    ++ (tailLine tail ++ endLine (countOf (ownSource sources) n) (n - countOf (ownSource sources) n))
+
+unfoldable pub printedBy : ℕ → List ℕ → List ℕ
+printedBy size sources =
+    let n = salvageRefusal size in
+    cond (eqb n 0) (reportBy sources (wholeIn size) (tailIn size)) (refusedLine n)
+
+-- What is printed of a file's length and its sources is what is to be printed of that file.
+pub record Told (size : ℕ) (sources x : List ℕ) : Type 0 where
+  pub answer : x ≡ printedBy size sources
+  pub whole : (file : List ℕ) → length file ≡ size → SourcesOf file (wholeIn size) sources → x ≡ salvageOf file .printed
+
+-- What stands at the start of a buffer, r bytes, is all that is to be printed of a file, whatever was read; or it is nothing.
+pub record PrintedOf (x : List ℕ) : Type 0 where
+  pub file : List ℕ
+  pub all : x ≡ salvageOf file .printed
+
+pub record Reports (r : ℕ) (out : List ℕ) : Type 0 where
+  pub within : r ≤ length out
+  pub right : (r ≡ 0 → ⊥) → PrintedOf (take r out)

@@ -1,0 +1,189 @@
+// The two files. What fails is said on standard error, by its name and the system's words.
+ghost use mathlib.Core.Path.{_≡_};
+ghost use mathlib.Core.Bool.{true};
+ghost use Prim.Native.Nat.{_≤_};
+ghost use lib.ListN.{length};
+ghost use Rattle.salvage.specs.Steps.{Sourced};
+
+const LENGTH: usize = 512;
+
+fn say(name: &[u8], words: &[u8]) {
+    io::write_all(libc::STDERR_FILENO, name);
+    io::write_all(libc::STDERR_FILENO, words);
+}
+
+// Whether the descriptor has places, as that of a pipe, a terminal or a device such as /dev/null has not; otherwise it is said.
+fn is_regular(fd: i32, name: &[u8]) -> bool {
+    if libc::lseek(fd, 1, libc::SEEK_SET) != 1 {
+        say(name, b": not a regular file\n");
+        return false;
+    }
+    true
+}
+
+// Where the file ends, and it is then read from its start; or -1, after it was said why not. A directory can be opened, has places
+// and cannot be read.
+pub fn end(fd: i32, name: &[u8]) -> i64 {
+    if !is_regular(fd, name) {
+        return -1;
+    }
+    let mut byte = [0u8; 1];
+    if libc::read(fd, &mut byte) < 0 {
+        os::fail(name);
+        return -1;
+    }
+    let end = libc::lseek(fd, 0, libc::SEEK_END);
+    if end < 0 {
+        os::fail(name);
+        return -1;
+    }
+    if libc::lseek(fd, 0, libc::SEEK_SET) != 0 {
+        os::fail(name);
+        return -1;
+    }
+    end
+}
+
+fn is_link(name: &[u8]) -> bool {
+    let mut path = io::buffer();
+    row::copy(&mut path, name);
+    path[4095] = 0;
+    let mut byte = [0u8; 1];
+    libc::readlink(&path, &mut byte) >= 0
+}
+
+// Whether the second file may take this name: nothing stands there, or a file that may be written. A rename would put the file in the
+// place of a link, a device or a pipe too. Otherwise it is said why not.
+pub fn is_replaceable(name: &[u8]) -> bool {
+    if is_link(name) {
+        say(name, b": not a regular file\n");
+        return false;
+    }
+    let fd = os::open_update(name);
+    if fd < 0 {
+        if os::errno() == libc::ENOENT {
+            return true;
+        }
+        os::fail(name);
+        return false;
+    }
+    let regular = is_regular(fd, name);
+    libc::close(fd);
+    regular
+}
+
+// Numbers that are not negative, without their sign.
+fn plain_i32(n: i32) -> u64 {
+    if n < 0 {
+        return 0;
+    }
+    n as u64
+}
+
+pub fn plain_i64(n: i64) -> u64 {
+    if n < 0 {
+        return 0;
+    }
+    n as u64
+}
+
+// The temporary file beside `to`: `to`.PID.part
+pub fn part_name(part: &mut [u8], to: &[u8]) -> usize
+    ensures { λ r. ⌜ r ≤ length (now (part .exit)) ⌝ }
+{
+    let a = lines::add_word(part, 0, to);
+    let b = lines::add_number(part, a, b".", plain_i32(libc::getpid()));
+    lines::add_word(part, b, b".part")
+}
+
+// The next block. The file was longer when it was counted, so one that is not whole is a failure too.
+fn read_block(fd: i32, block: &mut [u8], name: &[u8]) -> bool {
+    let got = libc::read(fd, block);
+    if got < 0 {
+        os::fail(name);
+        return false;
+    }
+    if got != 512 {
+        say(name, b": it became shorter while it was read\n");
+        return false;
+    }
+    true
+}
+
+fn write_block(fd: i32, block: &[u8], name: &[u8]) -> bool {
+    if !io::write_all(fd, block) {
+        os::fail(name);
+        return false;
+    }
+    true
+}
+
+// The first n blocks of the input are judged, and what is written for each goes to the output.
+fn copy(input: i32, output: i32, n: usize, sources: &mut [u16], from: &[u8], part: &[u8]) -> bool
+    requires { ⌜ (n ≤ 10000) × (length (now sources) ≡ 10000) ⌝ }
+    ensures { λ r. ⌜ (r ≡ true → Sourced n (now (sources .exit))) ⌝ }
+{
+    let mut last = [0u8; LENGTH];
+    crate::blocks::put_power_up(&mut last);
+    let mut block = [0u8; LENGTH];
+    let mut source: u16 = 0;
+    let mut i: usize = 0;
+    while i < n {
+        if !read_block(input, &mut block, from) {
+            return false;
+        }
+        source = crate::blocks::judge(&block, i as u16, &mut last, source);
+        sources[i] = source;
+        if !write_block(output, &last, part) {
+            return false;
+        }
+        i += 1;
+    }
+    true
+}
+
+// What was written has reached its device, and the descriptor is free.
+fn finish(fd: i32, name: &[u8]) -> bool {
+    if libc::fsync(fd) < 0 {
+        os::fail(name);
+        return false;
+    }
+    if libc::close(fd) < 0 {
+        os::fail(name);
+        return false;
+    }
+    true
+}
+
+fn fill(input: i32, output: i32, n: usize, sources: &mut [u16], from: &[u8], part: &[u8]) -> bool
+    requires { ⌜ (n ≤ 10000) × (length (now sources) ≡ 10000) ⌝ }
+    ensures { λ r. ⌜ (r ≡ true → Sourced n (now (sources .exit))) ⌝ }
+{
+    if !copy(input, output, n, sources, from, part) {
+        return false;
+    }
+    finish(output, part)
+}
+
+// The second file is written whole under the name `part`, and then takes the name `to`, in the place of what stood there. Where that
+// fails nothing of it is left.
+pub fn write(input: i32, n: usize, sources: &mut [u16], from: &[u8], part: &[u8], to: &[u8]) -> bool
+    requires { ⌜ (n ≤ 10000) × (length (now sources) ≡ 10000) ⌝ }
+    ensures { λ r. ⌜ (r ≡ true → Sourced n (now (sources .exit))) ⌝ }
+{
+    let output = os::create(part);
+    if output < 0 {
+        os::fail(part);
+        return false;
+    }
+    if !fill(input, output, n, sources, from, part) {
+        os::unlink(part);
+        return false;
+    }
+    if os::rename(part, to) < 0 {
+        os::fail(to);
+        os::unlink(part);
+        return false;
+    }
+    true
+}
