@@ -20,7 +20,7 @@ use Rattle.lines.specs.Lines.{each}
 use Rattle.lines.proofs.Laws.{each-same}
 use Rattle.salvage.specs.Salvage.{wholeIn, tailIn, blockAt, isGood, lastGood, standIn, writtenFor, lineFor, countOf, endLine}
 use Rattle.salvage.specs.Salvage.{secondOf, reportOf, tailLine}
-use Rattle.salvage.proofs.Turns.{block-before, block-last}
+use Rattle.salvage.proofs.Turns.{block-before, block-last, Taken}
 use Rattle.salvage.proofs.Telling.{count-not}
 
 -- What is written is good --------------------------------------------------------------------------------------------------------
@@ -44,6 +44,10 @@ pub written-good : (file : List ℕ) (k : ℕ) → readRefusal (writtenFor file 
 unfolding writtenFor
 written-good file k =
     by-test (λ (b : List ℕ). readRefusal b ≡ 0) (isGood file k) (λ t. eqb-true _ _ t) (λ _. last-good file k)
+
+-- so is what stands for the block that was judged last
+pub taken-good : {n : ℕ} {sources last : List ℕ} {source : ℕ} → Taken n sources last source → readRefusal last ≡ 0
+taken-good {n} t = rw (t .stands, t .from) (last-good (t .file) n)
 
 written-length : (file : List ℕ) (k : ℕ) → length (writtenFor file k) ≡ 512
 written-length file k = accepted (writtenFor file k) (written-good file k) .long

@@ -8,11 +8,14 @@ ghost use Rattle.salvage.specs.Salvage.{salvageRefusal};
 ghost use Rattle.salvage.specs.Steps.{Judged};
 use condition::Condition;
 
-// A file of more than 10,000 whole blocks is refused by 4.
-pub fn refusal(size: u64) -> u8
+// As many blocks as a file may have.
+pub const MOST: usize = 10000;
+
+// A file of so many bytes is refused by 4 if it has more whole blocks.
+pub fn refusal(size: usize) -> u8
     ensures { λ r. ⌜ r ≡ salvageRefusal size ⌝ }
 {
-    if 10000 < size / 512 {
+    if MOST < size / block::LENGTH {
         return 4;
     }
     0

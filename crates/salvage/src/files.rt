@@ -3,9 +3,10 @@ ghost use mathlib.Core.Path.{_≡_};
 ghost use mathlib.Core.Bool.{true};
 ghost use Prim.Native.Nat.{_≤_};
 ghost use lib.ListN.{length};
+ghost use Rattle.block.specs.Reading.{readRefusal};
 ghost use Rattle.salvage.specs.Steps.{Sourced};
-
-const LENGTH: usize = 512;
+use crate::blocks::judge;
+use crate::blocks::put_power_up;
 
 fn say(name: &[u8], words: &[u8]) {
     io::write_all(libc::STDERR_FILENO, name);
@@ -80,11 +81,11 @@ fn plain_i32(n: i32) -> u64 {
     n as u64
 }
 
-pub fn plain_i64(n: i64) -> u64 {
+pub fn plain_i64(n: i64) -> usize {
     if n < 0 {
         return 0;
     }
-    n as u64
+    n as usize
 }
 
 // The temporary file beside `to`: `to`.PID.part
@@ -110,7 +111,10 @@ fn read_block(fd: i32, block: &mut [u8], name: &[u8]) -> bool {
     true
 }
 
-fn write_block(fd: i32, block: &[u8], name: &[u8]) -> bool {
+// Only a good block is written.
+fn write_block(fd: i32, block: &[u8], name: &[u8]) -> bool
+    requires { ⌜ readRefusal (now block) ≡ 0 ⌝ }
+{
     if !io::write_all(fd, block) {
         os::fail(name);
         return false;
@@ -123,16 +127,16 @@ fn copy(input: i32, output: i32, n: usize, sources: &mut [u16], from: &[u8], par
     requires { ⌜ (n ≤ 10000) × (length (now sources) ≡ 10000) ⌝ }
     ensures { λ r. ⌜ (r ≡ true → Sourced n (now (sources .exit))) ⌝ }
 {
-    let mut last = [0u8; LENGTH];
-    crate::blocks::put_power_up(&mut last);
-    let mut block = [0u8; LENGTH];
+    let mut last = [0u8; block::LENGTH];
+    put_power_up(&mut last);
+    let mut block = [0u8; block::LENGTH];
     let mut source: u16 = 0;
     let mut i: usize = 0;
     while i < n {
         if !read_block(input, &mut block, from) {
             return false;
         }
-        source = crate::blocks::judge(&block, i as u16, &mut last, source);
+        source = judge(&block, i as u16, &mut last, source);
         sources[i] = source;
         if !write_block(output, &last, part) {
             return false;

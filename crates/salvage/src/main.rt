@@ -10,14 +10,11 @@ ghost use lib.ListN.{length, take};
 ghost use Rattle.salvage.specs.Salvage.{wholeIn, salvageRefusal};
 ghost use Rattle.salvage.specs.Steps.{Sourced, Reports};
 
-// As many blocks as a file may have.
-const MOST: usize = 10000;
-
 // Room for all that is printed: a line of at most 26 bytes for each block, and two more.
 const TEXT: usize = 262144;
 
 // The second file is made, unless the first is refused. Where it cannot be, that was said, and the answer is false.
-fn make_second(input: i32, size: u64, sources: &mut [u16], from: &[u8], to: &[u8]) -> bool
+fn make_second(input: i32, size: usize, sources: &mut [u16], from: &[u8], to: &[u8]) -> bool
     requires { ⌜ length (now sources) ≡ 10000 ⌝ }
     ensures { λ r. ⌜ (r ≡ true → salvageRefusal size ≡ 0 → Sourced (wholeIn size) (now (sources .exit))) ⌝ }
 {
@@ -29,7 +26,7 @@ fn make_second(input: i32, size: u64, sources: &mut [u16], from: &[u8], to: &[u8
     }
     let mut part = [0u8; 4128];
     let k = files::part_name(&mut part, to);
-    files::write(input, (size / 512) as usize, sources, from, &part[..k], to)
+    files::write(input, size / block::LENGTH, sources, from, &part[..k], to)
 }
 
 // What is to be printed stands at the start of `out`; nothing, where there is no second file for a reason that was said.
@@ -42,7 +39,7 @@ fn salvage(input: i32, from: &[u8], to: &[u8], out: &mut [u8]) -> usize
         return 0;
     }
     let size = files::plain_i64(end);
-    let mut sources = [0u16; MOST];
+    let mut sources = [0u16; blocks::MOST];
     if !make_second(input, size, &mut sources, from, to) {
         return 0;
     }

@@ -6,6 +6,7 @@ ghost use lib.ListN.{length, take, getD};
 ghost use Rattle.lines.specs.Lines.{Added, each};
 ghost use Rattle.salvage.specs.Salvage.{tailLine, endLine, countOf, salvageRefusal};
 ghost use Rattle.salvage.specs.Steps.{lineBy, ownSource, reportBy, Told};
+use crate::blocks::refusal;
 
 // A line comes at k where the block has another source than itself.
 fn add_change(out: &mut [u8], k: usize, number: usize, source: u16) -> usize
@@ -84,17 +85,18 @@ fn add_report(out: &mut [u8], sources: &[u16], n: usize, tail: usize) -> usize
     let good = kept(sources, n);
     let a = add_changes(out, sources, n);
     let b = add_tail(out, a, tail);
-    add_end(out, b, good, n - good)
+    let replaced = n - good;
+    add_end(out, b, good, replaced)
 }
 
 // All that is printed of a file that has so many bytes, and the sources of its blocks.
-pub fn tell(out: &mut [u8], size: u64, sources: &[u16]) -> usize
+pub fn tell(out: &mut [u8], size: usize, sources: &[u16]) -> usize
     requires { ⌜ (length (now out) ≡ 262144) × (length (now sources) ≡ 10000) ⌝ }
     ensures { λ r. ⌜ Told size (now (sources .entry)) (take r (now (out .exit))) × (r ≤ length (now (out .exit))) ⌝ }
 {
-    let refusal = crate::blocks::refusal(size);
-    if refusal != 0 {
-        return lines::add_refused(out, 0, refusal);
+    let n = refusal(size);
+    if n != 0 {
+        return lines::add_refused(out, 0, n);
     }
-    add_report(out, sources, (size / 512) as usize, (size % 512) as usize)
+    add_report(out, sources, size / block::LENGTH, size % block::LENGTH)
 }

@@ -4,6 +4,7 @@ use native.Mathlib.Omega.{arith}
 use lib.ListN.{length, length-set}
 use Rattle.laws.proofs.Tests.{clash}
 use Rattle.salvage.proofs.Turns.{Taken, taken-starts, taken-turns, taken-ends}
+use Rattle.salvage.proofs.Second.{taken-good}
 use borrow.Author.Needs.{needs}
 use Rattle.salvage.proofs.files.copy.Statement.{statement}
 use Rattle.salvage.proofs.files.copy.Tie as tie
@@ -59,7 +60,10 @@ slice-aggregate-write-block : tie.Need-slice-aggregate-write-block Inv-loop μ-l
 slice-aggregate-write-block c = search needs
 
 write-block-requires : tie.Need-write-block-requires Inv-loop μ-loop
-write-block-requires c κs = search needs
+write-block-requires c κs =
+    let j = c .before .before in
+    let l = j .before .before .before .before .before .before .before .before .loop in
+    taken-good (taken-turns _ (l .inv .5) (search needs) (omega arith) (j .judge .ensures))
 
 same-length-2 : tie.Need-same-length-2 Inv-loop μ-loop
 same-length-2 c =

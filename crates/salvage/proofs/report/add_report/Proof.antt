@@ -13,8 +13,8 @@ add-changes-requires c κs = search needs
 add-tail-requires : tie.Need-add-tail-requires
 add-tail-requires c κs = search needs
 
-sub-add-end : tie.Need-sub-add-end
-sub-add-end c = search needs
+sub-replaced : tie.Need-sub-replaced
+sub-replaced c = search needs
 
 add-end-requires : tie.Need-add-end-requires
 add-end-requires c κs = search needs
@@ -37,7 +37,7 @@ add-report-spec =
     kept-requires
     add-changes-requires
     add-tail-requires
-    sub-add-end
+    sub-replaced
     add-end-requires
     same-length
     returns)
