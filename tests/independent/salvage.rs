@@ -4,8 +4,8 @@
 //! the old second file or the whole new one.
 //! Usage: salvage PROGRAM.. (the words with which the tool is started).
 //!
-//! A file that gets shorter while it is read is not tried, since that cannot be timed, nor a card or a disk
-//! that fails while it is read or written: what fails here is a write that would make a file too long.
+//! A card or a disk that fails while it is read or written is not tried: what fails here is a write that
+//! would make a file too long.
 
 mod card;
 mod folder;
@@ -35,8 +35,11 @@ use tool::{Bench, Said};
 
 extern "C" {
     fn geteuid() -> u32;
+    fn kill(process: i32, signal: i32) -> i32;
 }
 const SIGKILL: i32 = 9;
+const SIGCONT: i32 = 18;
+const SIGSTOP: i32 = 19;
 
 /// So long something is awaited that comes at once, whatever the load.
 const WHILE: Duration = Duration::from_secs(20);
@@ -468,7 +471,7 @@ fn no_second_file(b: &mut Bench) {
         ("full", &[Out], "Is a directory"),
         (".", &[Out], "Is a directory"),
         ("pipe", &[Out], "not a regular file"),
-        ("socket", &[Out], "not a regular file"),
+        ("socket", &[Out], "No such device or address"),
         ("", either, "No such file or directory"),
         ("file/out", either, "Not a directory"),
         ("file/", either, "Not a directory"),
@@ -503,9 +506,8 @@ fn no_room(b: &mut Bench) {
     b.works("no room needed", call, b"short", "out");
 }
 
-/// The temporary file's name is taken: the shell takes it, and the tool gets its number. The tool may pass
-/// over that or fail, and what stands there is not its own: it must not write to what a link there leads to,
-/// nor leave half a file.
+/// The temporary file's name is taken: the shell takes it, and the tool gets its number. What stands there
+/// is not the tool's own, and stays; nor does the tool write to what a link there leads to.
 fn name_taken(b: &mut Bench) {
     let file = mixture(&mut b.rng, 9, 2).concat();
     for taking in ["echo text >\"out.$$.part\"", "ln -s victim \"out.$$.part\""] {
@@ -517,23 +519,100 @@ fn name_taken(b: &mut Bench) {
         let ended = folder::run(&mut call.command, &[]);
         let mut things = b.folder.things();
         let taken = things.remove(Path::new(&format!("out.{}.part", ended.process)));
-        let right = salvage(&file);
-        let mut after = before.clone();
-        after.insert("out".into(), Thing::File(right.second.unwrap_or_default()));
-        let failed = call.is_right(&Said::Failed(&[Temporary], "File exists"), &ended)
-            && ended.out.is_empty()
-            && things == before
-            && matches!(taken, Some(Thing::File(_) | Thing::Link(_)));
-        let worked = ended.err.is_empty()
-            && ended.out == right.printed.as_bytes()
-            && things == after
-            && taken.is_none();
+        let failed = call.is_right(&Said::Failed(&[Temporary], "File exists"), &ended);
+        let stays = matches!(taken, Some(Thing::File(_) | Thing::Link(_))) && things == before;
         b.report.cases += 1;
-        b.report.expect(failed || worked, || {
+        b.report.expect(failed && ended.out.is_empty() && stays, || {
             let said = String::from_utf8_lossy(&ended.err).into_owned();
             format!("{}: said '{}', {}", taking, said, other_things(&before, &things))
         });
     }
+}
+
+/// Started without standard input, output or error, so that the files get their numbers: the second file is
+/// right all the same, and that the lines cannot be printed is said where there is standard error.
+fn closed(b: &mut Bench) {
+    let file = mixture(&mut b.rng, 9, 2).concat();
+    let right = salvage(&file);
+    for closing in ["0<&-", "1>&-", "0<&- 1>&-", "2>&-", "1>&- 2>&-", "0<&- 1>&- 2>&-"] {
+        b.lay(&file, Some(b"old"));
+        let shell = ["sh", "-c", &format!("exec \"$@\" {}", closing), "sh"].map(OsString::from);
+        let mut call = b.call_by(&[&shell[..], &b.words[..]].concat(), "in", "out");
+        let mut after = b.folder.things();
+        after.insert("out".into(), Thing::File(right.second.clone().unwrap_or_default()));
+        let ended = folder::run(&mut call.command, &[]);
+        let printed = if closing.contains("1>") { "" } else { &right.printed };
+        let unheard = closing.contains("1>") && !closing.contains("2>");
+        let said = if unheard { "standard output: Bad file descriptor\n" } else { "" };
+        let things = b.folder.things();
+        b.report.cases += 1;
+        b.report.expect(ended.out == printed.as_bytes() && ended.err == said.as_bytes(), || {
+            format!("{}: said '{}'", closing, String::from_utf8_lossy(&ended.err))
+        });
+        b.report.expect(things == after, || format!("{}: {}", closing, other_things(&after, &things)));
+    }
+}
+
+/// The longest file, and the longest report, with half a megabyte of stack, and there is no heap: memory does
+/// not grow with the file.
+fn small_stack(b: &mut Bench) {
+    let file = mixture(&mut b.rng, MOST_BLOCKS, 50).concat();
+    b.lay(&file, None);
+    let shell = ["sh", "-c", "ulimit -s 512 && exec \"$@\"", "sh"].map(OsString::from);
+    let call = b.call_by(&[&shell[..], &b.words[..]].concat(), "in", "out");
+    b.works("half a megabyte of stack", call, &file, "out");
+}
+
+/// The first file gets shorter while it is read: the tool is held once it has its temporary file, and goes on
+/// when the file was cut. Answers how often it was held in time.
+fn shrinking(b: &mut Bench) -> u64 {
+    let file = mixture(&mut b.rng, MOST_BLOCKS, 3).concat();
+    let mut met = 0;
+    for case in 0..100 {
+        if met == 5 {
+            break;
+        }
+        b.lay(&file, Some(b"old"));
+        let mut call = b.call("in", "out");
+        call.command.stdout(Stdio::piped()).stderr(Stdio::piped());
+        let mut child = call.command.spawn().expect("the tool starts");
+        let temporary = format!("out.{}.part", child.id());
+        let (began, path) = (Instant::now(), b.folder.at(&temporary));
+        while !path.exists() && began.elapsed() < WHILE {
+            if child.try_wait().map_or(true, |status| status.is_some()) {
+                break;
+            }
+        }
+        unsafe { kill(child.id() as i32, SIGSTOP) };
+        let written = fs::metadata(&path).map_or(0, |m| m.len() as usize / BLOCK);
+        let held = path.exists() && written < MOST_BLOCKS - 100;
+        let left = [0, 1, written, written * BLOCK + 256, (MOST_BLOCKS - 1) * BLOCK][case % 5];
+        if held {
+            let first = OpenOptions::new().write(true).open(b.folder.at("in")).expect("the first file");
+            first.set_len(left as u64).expect("it gets shorter");
+        }
+        unsafe { kill(child.id() as i32, SIGCONT) };
+        let process = child.id();
+        let (out, err) = (child.stdout.take().unwrap(), child.stderr.take().unwrap());
+        let (out, err) = (folder::read_all(out), folder::read_all(err));
+        let status = folder::wait_for(&mut child);
+        let (out, err) = (out.join().expect("its lines"), err.join().expect("its words"));
+        let ended = Ended { process, out, err, status };
+        if !held {
+            continue;
+        }
+        met += 1;
+        let said = Said::Failed(&[In], "it became shorter while it was read");
+        let old = fs::read(b.folder.at("out")).ok();
+        b.report.cases += 1;
+        b.report.expect(call.is_right(&said, &ended) && ended.out.is_empty(), || {
+            format!("cut to {} bytes: '{}'", left, String::from_utf8_lossy(&ended.err))
+        });
+        b.report.expect(old.as_deref() == Some(b"old") && !path.exists(), || {
+            format!("cut to {} bytes: the old second file is gone, or the temporary one is not", left)
+        });
+    }
+    met
 }
 
 /// The words that start the tool as a user who may not do everything: this one or, if that is root, another.
@@ -809,6 +888,8 @@ fn main() {
     no_second_file(&mut b);
     no_room(&mut b);
     name_taken(&mut b);
+    closed(&mut b);
+    small_stack(&mut b);
     let mut demanded = [&LINES[..], &FAILURES].concat();
     match as_another(&b) {
         Some(words) => {
@@ -818,15 +899,17 @@ fn main() {
         None => println!("salvage: no way to another user (setpriv): permissions and devices are not tried"),
     }
     let killed = kills(&mut b);
+    let cut = shrinking(&mut b);
     let came = growing(&mut b);
     at_once(&mut b);
     demanded.iter().for_each(|what| b.demand(what));
     b.report.expect(killed.between > 0, || "no kill came between start and end".to_string());
+    b.report.expect(cut > 0, || "no file got shorter while it was read".to_string());
     b.report.expect(came > 0, || "no file grew while it was read".to_string());
     b.folder.remove();
     println!(
         "salvage: killed before a temporary file {}, with one {}, after the new file {}; ended before {}",
         killed.before, killed.between, killed.after, killed.ended
     );
-    b.report.end("salvage", 1_680)
+    b.report.end("salvage", 1_690)
 }
