@@ -102,6 +102,8 @@ show | tell | show_lounge | salvage)
     alone "$1"
     # shellcheck disable=SC2086
     "$out/$1" $RUN "target/bin/$1"
+    # what docs/HOST.md shows of the sample
+    if [ "$1" = salvage ]; then fence docs/HOST.md salvage | diff - crates/salvage/stdout; fi
     # what docs/LOUNGE.md shows of the sample, and of its line with printf
     if [ "$1" = show_lounge ]; then
         fence docs/LOUNGE.md lounge | diff - crates/show_lounge/stdout
@@ -218,6 +220,21 @@ costs)
         ninety=$(count "$out/costs" "$kind" 90)
         ten=$(count "$out/costs" "$kind" 10)
         echo "costs: kind $kind, $($RUN "$out/costs" "$kind" 1): $(((ninety - ten) / 80)) instructions"
+    done
+    # salvage, on no block, and on as many as a file may have, all good and all bad
+    program salvage
+    : >"$out/none.bin"
+    tail -c +513 crates/salvage/data/card.bin | head -c 512 >"$out/good.bin"
+    for _ in 1 2 3 4 5 6 7 8 9 10 11 12 13 14; do cat "$out/good.bin" "$out/good.bin" >"$out/two.bin" && mv "$out/two.bin" "$out/good.bin"; done
+    head -c 5120000 "$out/good.bin" >"$out/two.bin" && mv "$out/two.bin" "$out/good.bin"
+    head -c 5120000 /dev/zero >"$out/bad.bin"
+    none=$(count target/bin/salvage "$out/none.bin" "$out/second.bin")
+    for kind in good bad; do
+        began=$(date +%s%N)
+        last=$($RUN target/bin/salvage "$out/$kind.bin" "$out/second.bin" | tail -n 1)
+        ended=$(date +%s%N)
+        all=$(count target/bin/salvage "$out/$kind.bin" "$out/second.bin")
+        echo "costs: salvage of 10,000 $kind blocks, $last: $(((all - none) / 10000)) instructions for each, $(((ended - began) / 1000000)) ms"
     done
     echo "costs: libsign.a has $("${CROSS}size" target/staticlib/libsign.a | awk 'NR > 1 { n += $1 } END { print n }') bytes of code and constants"
     ;;

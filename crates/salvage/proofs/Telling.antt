@@ -101,8 +101,8 @@ told size sources x e = record { answer = e; whole = λ file l s. e ∙ whole fi
         (λ t. rw (l, t, ← l) (report-of file sources (wholeIn (length file)) refl (rw (← l) at s)))
         (λ t. rw (l, t))
 
--- Where the sources are those of what was read, this is all that is to be printed of a file: the blocks that were read, and a tail of
--- as many bytes as were not.
+-- Where the sources are those of what was read, this is all that is to be printed of a file: of the blocks that were read, and a
+-- tail of as many bytes as were not.
 pub printed-of : (size : ℕ) (sources x : List ℕ) → Told size sources x → (salvageRefusal size ≡ 0 → Sourced (wholeIn size) sources)
     → PrintedOf x
 unfolding printedBy salvageOf
@@ -161,14 +161,16 @@ pub few : (size : ℕ) → salvageRefusal size ≡ 0 → wholeIn size ≤ 10000
 unfolding salvageRefusal
 few size e = ltb-false 10000 (wholeIn size) (passed (ltb 10000 (wholeIn size)) 3 0 e .0)
 
-module _ {before after : List ℕ} {m : ℕ} (size n : ℕ) (sources : List ℕ) (e : n ≡ salvageRefusal size) (l : length before ≡ 262144) where
+module _ {before after : List ℕ} {m : ℕ} (size n : ℕ) (sources : List ℕ) (e : n ≡ salvageRefusal size)
+    (l : length before ≡ 262144) where
   pub told-refused : (n ≡ 0 → ⊥) → Added before 0 (refusedLine n) after m → Told size sources (take m after) × (m ≤ length after)
   unfolding printedBy
   told-refused h a =
       let w = whole-added a (omega (arith, refused-length n)) in
       (told size sources (take m after) (w .0 ∙ rw (← e, ne-eqb n 0 h)), w .1)
 
-  pub told-report : n ≡ 0 → ((k : ℕ) → getD sources k 0 < 65536) → Added before 0 (reportBy sources (wholeIn size) (tailIn size)) after m
+  pub told-report : n ≡ 0 → ((k : ℕ) → getD sources k 0 < 65536)
+      → Added before 0 (reportBy sources (wholeIn size) (tailIn size)) after m
       → Told size sources (take m after) × (m ≤ length after)
   unfolding printedBy
   told-report h b a =

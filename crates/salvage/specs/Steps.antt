@@ -17,8 +17,8 @@ pub record Step (file : List ℕ) (k : ℕ) (after : List ℕ) (r : ℕ) : Type 
   pub written : after ≡ writtenFor file k
   pub stands : after ≡ standIn file r
 
--- A block that was judged, where `last`, the block `source`, stood for what came before it. That is a step through any file in which
--- the block has this number.
+-- A block that was judged, where `last`, the block `source`, stood for what came before it. That is a step through any file in
+-- which the block has this number.
 pub record Judged (block : List ℕ) (number : ℕ) (last : List ℕ) (source : ℕ) (after : List ℕ) (r : ℕ) : Type 0 where
   pub answer : r ≡ cond (eqb (readRefusal block) 0) (number + 1) source
   pub left : after ≡ cond (eqb (readRefusal block) 0) block last

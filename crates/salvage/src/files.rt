@@ -3,6 +3,7 @@ ghost use mathlib.Core.Path.{_≡_};
 ghost use mathlib.Core.Bool.{true};
 ghost use Prim.Native.Nat.{_≤_};
 ghost use lib.ListN.{length};
+ghost use Rattle.io.specs.Counts.{Counts};
 ghost use Rattle.block.specs.Reading.{readRefusal};
 ghost use Rattle.salvage.specs.Steps.{Sourced};
 use crate::blocks::judge;
@@ -48,7 +49,7 @@ pub fn end(fd: i32, name: &[u8]) -> i64 {
 fn is_link(name: &[u8]) -> bool {
     let mut path = io::buffer();
     row::copy(&mut path, name);
-    path[4095] = 0;
+    path[libc::PATH_MAX - 1] = 0;
     let mut byte = [0u8; 1];
     libc::readlink(&path, &mut byte) >= 0
 }
@@ -97,7 +98,8 @@ pub fn part_name(part: &mut [u8], to: &[u8]) -> usize
     lines::add_word(part, b, b".part")
 }
 
-// The next block. The file was longer when it was counted, so one that is not whole is a failure too.
+// The next block. The file was longer when it was measured, so one that is not whole is a failure too. (Of a regular file one call
+// reads all that is asked for and there.)
 fn read_block(fd: i32, block: &mut [u8], name: &[u8]) -> bool {
     let got = libc::read(fd, block);
     if got < 0 {
@@ -169,6 +171,36 @@ fn fill(input: i32, output: i32, n: usize, sources: &mut [u16], from: &[u8], par
     finish(output, part)
 }
 
+// How much of a name is the folder in which it stands, with the last /; 0 where it has none.
+fn folder(name: &[u8]) -> usize
+    ensures { λ r. ⌜ Counts r (now (name .entry)) ⌝ }
+{
+    let mut n = name.len();
+    while 0 < n {
+        if name[n - 1] == b'/' {
+            return n;
+        }
+        n -= 1;
+    }
+    0
+}
+
+fn open_folder(name: &[u8]) -> i32 {
+    let n = folder(name);
+    if n == 0 {
+        return os::open_read(b".");
+    }
+    os::open_read(&name[..n])
+}
+
+// That a file has this name reaches the device too. Some systems cannot promise that, and the file is there all the same, so that
+// nothing is said where it fails.
+fn settle(name: &[u8]) {
+    let fd = open_folder(name);
+    libc::fsync(fd);
+    libc::close(fd);
+}
+
 // The second file is written whole under the name `part`, and then takes the name `to`, in the place of what stood there. Where that
 // fails nothing of it is left.
 pub fn write(input: i32, n: usize, sources: &mut [u16], from: &[u8], part: &[u8], to: &[u8]) -> bool
@@ -189,5 +221,6 @@ pub fn write(input: i32, n: usize, sources: &mut [u16], from: &[u8], part: &[u8]
         os::unlink(part);
         return false;
     }
+    settle(to);
     true
 }

@@ -10,6 +10,9 @@ ghost use lib.ListN.{length, take};
 ghost use Rattle.salvage.specs.Salvage.{wholeIn, salvageRefusal};
 ghost use Rattle.salvage.specs.Steps.{Sourced, Reports};
 
+// Room for a path, and for `.PID.part` behind it.
+const PART: usize = libc::PATH_MAX + 32;
+
 // Room for all that is printed: a line of at most 26 bytes for each block, and two more.
 const TEXT: usize = 262144;
 
@@ -24,7 +27,7 @@ fn make_second(input: i32, size: usize, sources: &mut [u16], from: &[u8], to: &[
     if !files::is_replaceable(to) {
         return false;
     }
-    let mut part = [0u8; 4128];
+    let mut part = [0u8; PART];
     let k = files::part_name(&mut part, to);
     files::write(input, size / block::LENGTH, sources, from, &part[..k], to)
 }

@@ -41,12 +41,15 @@ same-length-2 c = search needs
 returns-3 : tie.Need-returns-3
 returns-3 c = λ e. clash e refl
 
+settle-requires : tie.Need-settle-requires
+settle-requires c κs = search needs
+
 same-length-3 : tie.Need-same-length-3
 same-length-3 c = search needs
 
 returns-4 : tie.Need-returns-4
 returns-4 c =
-    let t = c .before .before in
+    let t = c .before .before .before in
     λ _. t .before .before .before .fill .ensures (not-false _ (t .if2 .left))
 
 pub write-spec : {M : Type 1} → statement M
@@ -65,5 +68,6 @@ write-spec =
     unlink-requires-2
     same-length-2
     returns-3
+    settle-requires
     same-length-3
     returns-4)
