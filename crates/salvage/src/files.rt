@@ -14,19 +14,29 @@ fn say(name: &[u8], words: &[u8]) {
     io::write_all(libc::STDERR_FILENO, words);
 }
 
-// Whether the descriptor has places, as that of a pipe, a terminal or a device such as /dev/null has not; otherwise it is said.
-fn is_regular(fd: i32, name: &[u8]) -> bool {
-    if libc::lseek(fd, 1, libc::SEEK_SET) != 1 {
-        say(name, b": not a regular file\n");
-        return false;
+// Linux's: the next hole from a place on.
+const SEEK_HOLE: i32 = 4;
+
+// Whether the descriptor is that of a file. A disk's own device cannot be asked for holes (an empty file has none either, but says so
+// by another error); a pipe, a terminal and a device such as /dev/null have no place 1.
+fn is_regular(fd: i32) -> bool {
+    if libc::lseek(fd, 0, SEEK_HOLE) < 0 {
+        if os::errno() == libc::EINVAL {
+            return false;
+        }
     }
-    true
+    libc::lseek(fd, 1, libc::SEEK_SET) == 1
+}
+
+fn say_not_regular(name: &[u8]) {
+    say(name, b": not a regular file\n");
 }
 
 // Where the file ends, and it is then read from its start; or -1, after it was said why not. A directory can be opened, has places
 // and cannot be read.
 pub fn end(fd: i32, name: &[u8]) -> i64 {
-    if !is_regular(fd, name) {
+    if !is_regular(fd) {
+        say_not_regular(name);
         return -1;
     }
     let mut byte = [0u8; 1];
@@ -58,7 +68,7 @@ fn is_link(name: &[u8]) -> bool {
 // place of a link, a device or a pipe too. Otherwise it is said why not.
 pub fn is_replaceable(name: &[u8]) -> bool {
     if is_link(name) {
-        say(name, b": not a regular file\n");
+        say_not_regular(name);
         return false;
     }
     let fd = os::open_update(name);
@@ -69,8 +79,12 @@ pub fn is_replaceable(name: &[u8]) -> bool {
         os::fail(name);
         return false;
     }
-    let regular = is_regular(fd, name);
+    let regular = is_regular(fd);
+    // before a word is said: started without standard error, what stands there might have its number
     libc::close(fd);
+    if !regular {
+        say_not_regular(name);
+    }
     regular
 }
 
@@ -193,11 +207,15 @@ fn open_folder(name: &[u8]) -> i32 {
     os::open_read(&name[..n])
 }
 
-// That a file has this name reaches the device too. Some systems cannot promise that, and the file is there all the same, so that
-// nothing is said where it fails.
+// That a file has this name reaches the device too. Some systems cannot promise that, and the file is there all the same: only that
+// the device fails is said.
 fn settle(name: &[u8]) {
     let fd = open_folder(name);
-    libc::fsync(fd);
+    if libc::fsync(fd) < 0 {
+        if os::errno() == libc::EIO {
+            os::fail(name);
+        }
+    }
     libc::close(fd);
 }
 
