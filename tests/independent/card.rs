@@ -1,8 +1,8 @@
 //! Blocks as boards append them to a card, good ones and those that a worn card gives back, and files of
 //! them.
 
-use crate::inputs::{any_condition, damage, reached_condition};
-use crate::module::{check_of, seal, Condition, Half, User, BLOCK, CELLS};
+use crate::inputs::{any_condition, damage, reached_condition, rich};
+use crate::module::{check_of, seal, Condition, Half, BLOCK};
 use crate::rng::Rng;
 
 pub type Block = [u8; BLOCK];
@@ -19,30 +19,6 @@ pub fn with(block: &Block, places: &[(usize, u8)]) -> Block {
     }
     seal(&mut b);
     b
-}
-
-/// A condition with nearly every field away from its power-up value.
-pub fn rich() -> Condition {
-    let mut c = Condition::power_up(1);
-    for i in 0..CELLS {
-        c.codes[i] = (i * 11) as u8;
-        c.fonts[i] = (i % 3 == 1) as u8;
-    }
-    c.cursor = 19;
-    c.mode = 3;
-    c.scroll_on = true;
-    c.shown = true;
-    c.font = 0;
-    c.euro = true;
-    c.luminance = 2;
-    c.speed = 100;
-    c.flickerless = true;
-    for i in 0..14 {
-        c.users[i] = User { code: 0x80 + 3 * i as u8, dots: [255, i as u8, 1, 128, i as u8] };
-    }
-    c.count = 14;
-    c.half = Half::UserData { code: 0x1B, count: 2, held: [3, 4, 0, 0] };
-    c
 }
 
 /// A condition in which 1Bh is a user character, so that no command can be half received.

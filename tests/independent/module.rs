@@ -1,6 +1,6 @@
 //! The 20x2 display module, written from its papers alone (document 01, the scope, requests W1 to W7 and
-//! W10 of document 02, and source 000, the module's specification) and not from the product's code. The product
-//! is compared with it.
+//! W10 of document 02, and source 000, the module's specification) and not from the product's code. The
+//! product is compared with it.
 //!
 //! In this order: the condition; what a byte does, with its busy time; the run and its tally; what a
 //! cell shows; the block; the planner of one font; the planner of two fonts, by search; two searches that
@@ -1424,8 +1424,8 @@ pub struct Salvaged {
     pub printed: String,
 }
 
-/// Request W10. A good block is copied, any other replaced by the last good one before it or by power-up for font 0;
-/// what is left behind the last whole block is dropped.
+/// Request W10. A good block is copied, any other replaced by the last good one before it or by power-up
+/// for font 0; what is left behind the last whole block is dropped.
 pub fn salvage(file: &[u8]) -> Salvaged {
     let blocks = file.chunks_exact(BLOCK);
     let tail = blocks.remainder().len();

@@ -1,6 +1,6 @@
 //! The independent program alone: the fifteen cases of the bench sheet, the sample, and the rules of
-//! document 01 and of requests W1 to W8 and W10 that it can be held to by itself. It uses nothing of the product but the
-//! table of move lengths, which is data.
+//! document 01 and of requests W1 to W8 and W10 that it can be held to by itself. It uses nothing of the
+//! product but the table of move lengths, which is data.
 
 mod inputs;
 mod module;

@@ -166,6 +166,12 @@ impl Bench {
         Call { command: self.command(words, &names), names, given: vec![] }
     }
 
+    /// The tool on `in` and `out`, started by a line of the shell as `"$@"`.
+    pub fn call_in_shell(&self, line: &str) -> Call {
+        let shell = ["sh", "-c", line, "sh"].map(OsString::from);
+        self.call_by(&[&shell[..], &self.words[..]].concat(), "in", "out")
+    }
+
     /// Makes the call and holds all that it leaves against what it should.
     pub fn judge(&mut self, what: &str, mut call: Call, printed: &str, said: Said, after: &Things) {
         let ended = folder::run(&mut call.command, &call.given);

@@ -13,12 +13,12 @@ use Rattle.row.specs.Row.{sameBytes}
 use Rattle.row.proofs.Alike.{same-eq, same-refl}
 use Rattle.condition.specs.declared.Condition.{Condition}
 use Rattle.condition.specs.declared.Outcome.{Outcome}
-use Rattle.condition.specs.Condition.{wellFormed}
+use Rattle.condition.specs.Condition.{wellFormed, powerUp}
 use Rattle.layout.specs.Layout.{headOf, packedOf, conditionIn}
 use Rattle.block.specs.Block.{checkOf, bodyOf, sealOf, blockOf}
-use Rattle.block.specs.Reading.{intact, sound, readRefusal, readAnswer}
+use Rattle.block.specs.Reading.{intact, sound, readRefusal, readAnswer, ReadPromise}
 use Rattle.condition.proofs.Good.{Sized, Indexed, good}
-use Rattle.condition.proofs.Kept.{power-up-good}
+use Rattle.condition.proofs.Kept.{power-up-good, power-up-sized}
 use Rattle.layout.proofs.PackedBack.{back-with}
 use Rattle.block.proofs.Sealing.{length-body, length-block, check-body}
 use Rattle.block.proofs.Tidying.{block-parts}
@@ -85,6 +85,10 @@ pub refusal-of : (b : List ℕ) → readAnswer b .refusal ≡ readRefusal b
 unfolding readAnswer
 refusal-of b = number-by (λ (r : Outcome). r .refusal) (readRefusal b) refl refl
 
+-- of a reading that was made
+pub refused-by : (b : List ℕ) (o : Outcome) → ReadPromise b o → o .refusal ≡ readRefusal b
+refused-by b o p = ap (λ (r : Outcome). r .refusal) (p .answer) ∙ refusal-of b
+
 pub rewritten : (b : List ℕ) → readAnswer b .refusal ≡ 0 → blockOf (readAnswer b .condition) ≡ b
 rewritten b e =
     let a = accepted b (sym (refusal-of b) ∙ e) in
@@ -96,3 +100,9 @@ unfolding readAnswer
 read-formed b =
     by-test (λ (o : Outcome). wellFormed (o .condition) ≡ true) (eqb (readRefusal b) 0)
     (λ h. accepted b (eqb-true _ _ h) .formed) (λ _. power-up-good 0 (omega arith))
+
+-- and its block is accepted
+pub power-up-accepted : readRefusal (blockOf (powerUp 0)) ≡ 0
+power-up-accepted =
+    let r = reread (powerUp 0) (power-up-sized 0) (power-up-good 0 (omega arith)) in
+    sym (refusal-of (blockOf (powerUp 0))) ∙ ap (λ (o : Outcome). o .refusal) r

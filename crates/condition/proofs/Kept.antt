@@ -34,6 +34,10 @@ power-up-good zero h = none-agrees (replicate 96 0)
 power-up-good (suc zero) h = none-agrees (replicate 96 0)
 power-up-good (suc (suc f)) h = absurd (omega arith)
 
+pub power-up-sized : (f : ℕ) → Sized (powerUp f)
+unfolding powerUp
+power-up-sized f = record { codes-40 = refl; fonts-40 = refl; users-96 = refl; held-4 = refl }
+
 -- so it is given for a font link of 0 or 1, and refused for any other
 pub powered : (f : ℕ) → leb f 1 ≡ true → powerUpAnswer f ≡ record { refusal = 0; condition = powerUp f }
 unfolding powerUpAnswer

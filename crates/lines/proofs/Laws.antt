@@ -100,11 +100,22 @@ each-below f m (suc n) h =
 pub each-length : (f : ℕ → List ℕ) (m n : ℕ) → ((i : ℕ) → length (f i) ≤ m) → length (each f n) ≤ n * m
 each-length f m n h = each-below f m n (λ i _. h i)
 
--- rows of the same texts
+-- a row of texts that are all as long
+pub each-even : (f : ℕ → List ℕ) (m n : ℕ) → ((i : ℕ) → length (f i) ≡ m) → length (each f n) ≡ n * m
+unfolding each
+each-even f m zero h = omega arith
+each-even f m (suc n) h = omega (arith, length-append (each f n) (f n), each-even f m n h, h n)
+
+-- rows of the same texts, and of none
 pub each-same : (f g : ℕ → List ℕ) (n : ℕ) → ((i : ℕ) → i < n → f i ≡ g i) → each f n ≡ each g n
 unfolding each
 each-same f g zero h = refl
 each-same f g (suc n) h = rw (each-same f g n (λ i e. h i (omega arith)), h n (omega arith))
+
+pub each-none : (f : ℕ → List ℕ) (n : ℕ) → ((i : ℕ) → i < n → f i ≡ []) → each f n ≡ []
+unfolding each
+each-none f zero h = refl
+each-none f (suc n) h = rw (each-none f n (λ i e. h i (omega arith)), h n (omega arith))
 
 -- a text with room for all of it
 pub whole-added : {a b : List ℕ} {x : List ℕ} {r : ℕ} → Added a 0 x b r → length x ≤ length a → (take r b ≡ x) × (r ≤ length b)

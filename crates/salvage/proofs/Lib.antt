@@ -1,4 +1,4 @@
 pub mod Signs
 pub mod Turns
 pub mod Telling
-pub mod Second
+pub mod AllGood

@@ -1,20 +1,21 @@
 -- What is printed: by the sources of the blocks, and so of the file; and how long it may be.
-use Prim.Native.Nat.{ℕ, zero, suc, _+_, _-_, _*_, _/_, _%_, _≤_, _<_}
-use mathlib.Core.Path.{_≡_, refl, sym, ap, _∙_}
+use Prim.Native.Nat.{ℕ, zero, suc, _+_, _-_, _≤_, _<_}
+use mathlib.Core.Path.{_≡_, refl, sym, _∙_}
 use mathlib.Core.Bool.{Bool, true, false, cond, not}
 use mathlib.Core.List.{List, [], _++_}
 use native.Mathlib.Omega.{arith}
 use native.Mathlib.Numerals.{add-one}
-use lib.Dec.{eqb, ltb, lit<}
-use lib.ListN.{length, take, getD, replicate, length-append, length-replicate}
-use borrow.Author.Tests.{eqb-true, eqb-false, ltb-false, eq-eqb, ne-eqb}
+use lib.Dec.{eqb, ltb}
+use lib.ListN.{length, getD, replicate, length-append, length-replicate}
+use borrow.Author.Tests.{ltb-false, eq-eqb, ne-eqb}
 use Rattle.laws.proofs.Tests.{by-cases, by-test, passed}
 use Rattle.laws.specs.Flags.{flag}
-use Rattle.lines.specs.Lines.{Added, text, each, numbered, newLine, refusedLine, decimalOf}
+use Rattle.laws.proofs.Flags.{flag-most}
+use Rattle.lines.specs.Lines.{Added, text, each, numbered, newLine, refusedLine}
 use Rattle.lines.proofs.Laws.{whole-added, each-below, each-same, decimal-below, refused-length}
-use Rattle.salvage.specs.Salvage.{wholeIn, tailIn, isGood, lastGood, changeLine, lineFor, tailLine, countOf, endLine}
+use Rattle.salvage.specs.Salvage.{wholeIn, tailIn, isGood, lastGood, changeLine, lineFor, tailLine, countOf, countsLine}
 use Rattle.salvage.specs.Salvage.{reportOf, salvageRefusal, salvageOf}
-use Rattle.salvage.specs.Steps.{SourcesOf, Sourced, ownSource, lineBy, reportBy, printedBy, Told, PrintedOf}
+use Rattle.salvage.specs.Steps.{SourcesOf, Sourced, ownSource, lineBy, reportBy, Reports}
 use Rattle.salvage.proofs.Turns.{last-most, last-before}
 
 -- Lines --------------------------------------------------------------------------------------------------------------------------
@@ -44,7 +45,7 @@ tail-line (suc n) h = refl
 pub count-most : (p : ℕ → Bool) (n : ℕ) → countOf p n ≤ n
 unfolding countOf
 count-most p zero = omega arith
-count-most p (suc n) = by-cases (p n) (λ e. rw e (omega (arith, count-most p n))) (λ e. rw e (omega (arith, count-most p n)))
+count-most p (suc n) = omega (arith, count-most p n, flag-most (p n))
 
 pub count-next : (p : ℕ → Bool) (n a b : ℕ) → a ≡ countOf p n → b ≡ flag (p n) → a + b ≡ countOf p (n + 1)
 unfolding countOf
@@ -81,77 +82,45 @@ line-of file k = rw (own-good file k) (go (isGood file k))
     go true = refl
     go false = refl
 
-module _ (file sources : List ℕ) (n : ℕ) (e : wholeIn (length file) ≡ n) (s : SourcesOf file n sources) where
-  report-of : reportBy sources n (tailIn (length file)) ≡ reportOf file
-  unfolding reportBy reportOf
-  report-of =
-      let own = count-same (ownSource sources) (isGood file) n (λ k h. rw (s k h) (own-good file k)) in
-      let others = count-not (isGood file) n in
-      let rows = each-same (λ k. lineBy k (getD sources k 0)) (lineFor file) n (λ k h. rw (s k h) (line-of file k)) in
-      rw (e, own, others, rows)
-
-pub told : (size : ℕ) (sources x : List ℕ) → x ≡ printedBy size sources → Told size sources x
-unfolding printedBy salvageOf
-told size sources x e = record { answer = e; whole = λ file l s. e ∙ whole file l s }
-  where
-    whole : (file : List ℕ) → length file ≡ size → SourcesOf file (wholeIn size) sources
-        → printedBy size sources ≡ salvageOf file .printed
-    whole file l s =
-        by-cases (eqb (salvageRefusal size) 0)
-        (λ t. rw (l, t, ← l) (report-of file sources (wholeIn (length file)) refl (rw (← l) at s)))
-        (λ t. rw (l, t))
-
--- Where the sources are those of what was read, this is all that is to be printed of a file: of the blocks that were read, and a
--- tail of as many bytes as were not.
-pub printed-of : (size : ℕ) (sources x : List ℕ) → Told size sources x → (salvageRefusal size ≡ 0 → Sourced (wholeIn size) sources)
-    → PrintedOf x
-unfolding printedBy salvageOf
-printed-of size sources x t s =
-    by-cases (eqb (salvageRefusal size) 0) (λ e. accepted (s (eqb-true _ _ e))) (λ e. refused e)
-  where
-    accepted : Sourced (wholeIn size) sources → PrintedOf x
-    accepted r =
-        let tail : List ℕ = replicate (tailIn size) 0 in
-        let m : length tail ≡ tailIn size = length-replicate {A = ℕ} (tailIn size) 0 in
-        let before = last-before (r .file) tail (wholeIn size) (r .long) in
-        record {
-          file = r .file ++ tail;
-          all =
-              t .whole (r .file ++ tail) (omega (arith, length-append (r .file) tail, r .long))
-              (λ k h. r .each k h ∙ sym (before (suc k) (omega arith)));
-        }
-
-    refused : eqb (salvageRefusal size) 0 ≡ false → PrintedOf x
-    refused e = record { file = replicate size 0; all = t .answer ∙ rw (length-replicate {A = ℕ} size 0, e) }
+-- what is printed by the sources of a file is what is to be printed of it
+pub report-of : (file sources : List ℕ) (size : ℕ) → length file ≡ size → SourcesOf file (wholeIn size) sources
+    → reportBy sources (wholeIn size) (tailIn size) ≡ reportOf file
+unfolding reportBy reportOf
+report-of file sources size l s =
+    let n = wholeIn size in
+    let own = count-same (ownSource sources) (isGood file) n (λ k h. rw (s k h) (own-good file k)) in
+    let others = count-not (isGood file) n in
+    let rows = each-same (λ k. lineBy k (getD sources k 0)) (lineFor file) n (λ k h. rw (s k h) (line-of file k)) in
+    rw (l, own, others, rows)
 
 -- How long it is -----------------------------------------------------------------------------------------------------------------
 
-line-length : (k source : ℕ) → k < 10000 → source < 65536 → length (lineBy k source) ≤ 26
+line-length : (k source : ℕ) → k < 10000 → source ≤ 10000 → length (lineBy k source) ≤ 25
 unfolding lineBy changeLine
 line-length k source h g =
-    by-test (λ (x : List ℕ). length x ≤ 26) (eqb source (k + 1)) (λ _. omega arith) (λ _. go source g)
+    by-test (λ (x : List ℕ). length x ≤ 25) (eqb source (k + 1)) (λ _. omega arith) (λ _. go source g)
   where
-    go : (source : ℕ) → source < 65536 → length (changeLine k source) ≤ 26
+    go : (source : ℕ) → source ≤ 10000 → length (changeLine k source) ≤ 25
     go zero g = simp length-append (omega (arith, decimal-below 3 k h))
-    go (suc n) g = simp length-append (omega (arith, decimal-below 3 k h, decimal-below 4 n (omega arith)))
+    go (suc n) g = simp length-append (omega (arith, decimal-below 3 k h, decimal-below 3 n (omega arith)))
 
 tail-length : (n : ℕ) → n < 512 → length (tailLine n) ≤ 17
 unfolding tailLine
 tail-length zero h = omega arith
 tail-length (suc n) h = simp length-append (omega (arith, decimal-below 2 (suc n) (omega arith)))
 
-end-length : (a b : ℕ) → a ≤ 10000 → b ≤ 10000 → length (endLine a b) ≤ 25
-unfolding endLine
-end-length a b h g = simp length-append (omega (arith, decimal-below 4 a (omega arith), decimal-below 4 b (omega arith)))
+counts-length : (a b : ℕ) → a ≤ 10000 → b ≤ 10000 → length (countsLine a b) ≤ 25
+unfolding countsLine
+counts-length a b h g = simp length-append (omega (arith, decimal-below 4 a (omega arith), decimal-below 4 b (omega arith)))
 
-pub report-length : (sources : List ℕ) (n tail : ℕ) → n ≤ 10000 → tail < 512 → ((k : ℕ) → getD sources k 0 < 65536)
+report-length : (sources : List ℕ) (n tail : ℕ) → n ≤ 10000 → tail < 512 → ((k : ℕ) → k < n → getD sources k 0 ≤ 10000)
     → length (reportBy sources n tail) ≤ 262144
 unfolding reportBy
 report-length sources n tail h g b =
     let own = countOf (ownSource sources) n in
     let most = count-most (ownSource sources) n in
-    let rows = each-below (λ k. lineBy k (getD sources k 0)) 26 n (λ k l. line-length k (getD sources k 0) (omega arith) (b k)) in
-    let last = end-length own (n - own) (omega arith) (omega arith) in
+    let rows = each-below (λ k. lineBy k (getD sources k 0)) 25 n (λ k l. line-length k (getD sources k 0) (omega arith) (b k l)) in
+    let last = counts-length own (n - own) (omega arith) (omega arith) in
     simp length-append (omega (arith, rows, tail-length tail g, last))
 
 -- Accepted or refused ------------------------------------------------------------------------------------------------------------
@@ -161,20 +130,40 @@ pub few : (size : ℕ) → salvageRefusal size ≡ 0 → wholeIn size ≤ 10000
 unfolding salvageRefusal
 few size e = ltb-false 10000 (wholeIn size) (passed (ltb 10000 (wholeIn size)) 3 0 e .0)
 
-module _ {before after : List ℕ} {m : ℕ} (size n : ℕ) (sources : List ℕ) (e : n ≡ salvageRefusal size)
-    (l : length before ≡ 262144) where
-  pub told-refused : (n ≡ 0 → ⊥) → Added before 0 (refusedLine n) after m → Told size sources (take m after) × (m ≤ length after)
-  unfolding printedBy
-  told-refused h a =
-      let w = whole-added a (omega (arith, refused-length n)) in
-      (told size sources (take m after) (w .0 ∙ rw (← e, ne-eqb n 0 h)), w .1)
+-- the second file could not be made, and nothing is printed
+pub reports-nothing : (size : ℕ) (out : List ℕ) → salvageRefusal size ≡ 0 → Reports size 0 out
+reports-nothing size out z = record { within = omega arith; refused = λ h. absurd (h z); told = λ h. absurd (h refl) }
 
-  pub told-report : n ≡ 0 → ((k : ℕ) → getD sources k 0 < 65536)
-      → Added before 0 (reportBy sources (wholeIn size) (tailIn size)) after m
-      → Told size sources (take m after) × (m ≤ length after)
-  unfolding printedBy
-  told-report h b a =
-      let z : salvageRefusal size ≡ 0 = sym e ∙ h in
-      let short = report-length sources (wholeIn size) (tailIn size) (few size z) (omega arith) b in
-      let w = whole-added a (omega arith) in
-      (told size sources (take m after) (w .0 ∙ rw z), w .1)
+module _ {before after : List ℕ} {m : ℕ} (size : ℕ) (l : length before ≡ 262144) where
+  pub reports-refused : (n : ℕ) → n ≡ salvageRefusal size → (n ≡ 0 → ⊥) → Added before 0 (refusedLine n) after m
+      → Reports size m after
+  unfolding salvageOf
+  reports-refused n e h a =
+      let w = whole-added a (omega (arith, refused-length n)) in
+      let long = length-replicate {A = ℕ} size 0 in
+      record {
+        within = w .1;
+        refused = λ _. w .0 ∙ rw e;
+        told = λ _. record { file = replicate size 0; long = long; all = w .0 ∙ rw (long, ← e, ne-eqb n 0 h) };
+      }
+
+  -- the file is that of the blocks that were read, and a tail of as many bytes as were not
+  pub reports-accepted : (sources : List ℕ) → salvageRefusal size ≡ 0 → Sourced (wholeIn size) sources
+      → Added before 0 (reportBy sources (wholeIn size) (tailIn size)) after m → Reports size m after
+  unfolding salvageOf
+  reports-accepted sources z r a =
+      let n = wholeIn size in
+      let tail : List ℕ = replicate (tailIn size) 0 in
+      let file = r .file ++ tail in
+      let long : length file ≡ size =
+      omega (arith, length-append (r .file) tail, length-replicate {A = ℕ} (tailIn size) 0, r .long) in
+      let before = last-before (r .file) tail n (r .long) in
+      let s : SourcesOf file n sources = λ k h. r .each k h ∙ sym (before (suc k) (omega arith)) in
+      let low : (k : ℕ) → k < n → getD sources k 0 ≤ 10000 =
+      λ k h. omega (arith, r .each k h, last-most (r .file) (suc k), few size z) in
+      let w = whole-added a (omega (arith, report-length sources n (tailIn size) (few size z) (omega arith) low)) in
+      record {
+        within = w .1;
+        refused = λ h. absurd (h z);
+        told = λ _. record { file = file; long = long; all = w .0 ∙ rw (long, z) (report-of file sources size long s) };
+      }

@@ -2,20 +2,21 @@
 use Prim.Native.Nat.{ℕ, zero, suc, _+_, _*_, _≤_, _<_}
 use mathlib.Core.Path.{_≡_, refl, sym, ap, _∙_}
 use mathlib.Core.Bool.{Bool, true, false, cond}
-use mathlib.Core.List.{List, [], _++_, append-nil}
+use mathlib.Core.List.{List, [], _++_}
 use native.Mathlib.Omega.{arith}
 use native.Mathlib.Numerals.{add-one}
 use lib.Dec.{eqb}
-use lib.ListN.{length, take, drop, getD, set, length-append, length-drop, drop-of-length-le}
+use lib.ListN.{length, drop, set, length-append, length-drop}
 use lib.Seq.{take-all, drop-at, take-append-le, drop-append-le, getD-set-same, getD-set-other}
-use borrow.Author.Tests.{ne-eqb, eq-eqb, le-ltb}
+use borrow.Author.Tests.{ne-eqb, eq-eqb}
 use Rattle.laws.proofs.Tests.{by-test, by-equal}
 use Rattle.row.specs.Row.{laid}
+use Rattle.row.proofs.Laws.{filled}
 use Rattle.condition.specs.declared.Outcome.{Outcome}
-use Rattle.condition.specs.Condition.{powerUp, powerUpAnswer}
-use Rattle.block.specs.Block.{blockOf, putOver}
+use Rattle.condition.specs.Condition.{powerUp}
+use Rattle.block.specs.Block.{blockOf}
 use Rattle.block.specs.Reading.{readRefusal, ReadPromise}
-use Rattle.block.proofs.RoundTrip.{accepted, refusal-of}
+use Rattle.block.proofs.RoundTrip.{accepted, refused-by}
 use Rattle.salvage.specs.Salvage.{blockAt, isGood, lastGood, standIn, writtenFor}
 use Rattle.salvage.specs.Steps.{Step, Judged, SourcesOf, Sourced}
 
@@ -51,9 +52,6 @@ module _ (file block : List ℕ) (n : ℕ) (l : length file ≡ n * 512) where
 
 -- A block is judged --------------------------------------------------------------------------------------------------------------
 
-refused-by : (block : List ℕ) (o : Outcome) → ReadPromise block o → o .refusal ≡ readRefusal block
-refused-by block o p = ap (λ (r : Outcome). r .refusal) (p .answer) ∙ refusal-of block
-
 judged : (block : List ℕ) (number : ℕ) (last : List ℕ) (source : ℕ) (after : List ℕ) (r : ℕ)
     → r ≡ cond (eqb (readRefusal block) 0) (number + 1) source → after ≡ cond (eqb (readRefusal block) 0) block last
     → Judged block number last source after r
@@ -83,25 +81,14 @@ read-refused block number last source o p h =
 -- a good block is as long as what it is copied over
 pub read-accepted : (block : List ℕ) (number : ℕ) (last : List ℕ) (source : ℕ) (o : Outcome) (after : List ℕ) → ReadPromise block o
     → o .refusal ≡ 0 → length last ≡ 512 → after ≡ laid block last → Judged block number last source after (number + 1)
-unfolding laid
 read-accepted block number last source o after p h l f =
     let z : readRefusal block ≡ 0 = sym (refused-by block o p) ∙ h in
-    let m : length block ≡ 512 = accepted block z .long in
-    let copied : laid block last ≡ block =
-    rw (take-all (length last) block (omega arith), drop-of-length-le last {i = length block} (omega arith)) (append-nil block) in
+    let copied = filled block last 512 (accepted block z .long) l in
     judged block number last source after (number + 1) (rw (eq-eqb _ _ z)) (rw (eq-eqb _ _ z) (f ∙ copied))
-
--- what stands for what comes before the first block
-pub powered-up : (out after : List ℕ) (o : Outcome) → o ≡ powerUpAnswer 0 → length out ≡ 512 → after ≡ putOver (o .condition) out
-    → after ≡ blockOf (powerUp 0)
-unfolding putOver powerUpAnswer
-powered-up out after o e l f =
-    let none : drop 512 out ≡ [] = drop-of-length-le out {i = 512} (omega arith) in
-    f ∙ rw (e, le-ltb (length out) 512 (omega arith), none) (append-nil (blockOf (powerUp 0)))
 
 -- From block to block ------------------------------------------------------------------------------------------------------------
 
--- what is known after n blocks: the sources of these, and of the last one what was written for it
+-- what is known after n blocks: their sources, and what stands in for what comes next
 pub record Taken (n : ℕ) (sources last : List ℕ) (source : ℕ) : Type 0 where
   pub file : List ℕ
   pub long : length file ≡ n * 512

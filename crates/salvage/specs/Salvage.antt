@@ -58,8 +58,8 @@ countOf p zero = 0
 countOf p (suc n) = countOf p n + flag (p n)
 
 -- `kept K changed C`, "the good and the replaced blocks"
-unfoldable pub endLine : ℕ → ℕ → List ℕ
-endLine kept changed = numbered (text "kept ") kept ++ (numbered (text " changed ") changed ++ newLine)
+unfoldable pub countsLine : ℕ → ℕ → List ℕ
+countsLine kept changed = numbered (text "kept ") kept ++ (numbered (text " changed ") changed ++ newLine)
 
 -- The whole ----------------------------------------------------------------------------------------------------------------------
 
@@ -72,7 +72,7 @@ unfoldable pub reportOf : List ℕ → List ℕ
 reportOf file =
     let n = wholeIn (length file) in
     each (lineFor file) n
-    ++ (tailLine (tailIn (length file)) ++ endLine (countOf (isGood file) n) (countOf (λ k. not (isGood file k)) n))
+    ++ (tailLine (tailIn (length file)) ++ countsLine (countOf (isGood file) n) (countOf (λ k. not (isGood file k)) n))
 
 -- "4 for more than 10,000 whole blocks", by the file's length
 unfoldable pub salvageRefusal : ℕ → ℕ

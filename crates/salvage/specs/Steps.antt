@@ -8,22 +8,27 @@ use lib.ListN.{length, take, getD}
 use lib.Dec.{eqb}
 use Rattle.block.specs.Reading.{readRefusal}
 use Rattle.lines.specs.Lines.{each, refusedLine}
-use Rattle.salvage.specs.Salvage.{wholeIn, tailIn, blockAt, lastGood, standIn, writtenFor, changeLine, tailLine, countOf}
-use Rattle.salvage.specs.Salvage.{endLine, salvageRefusal, salvageOf}
+use Rattle.salvage.specs.Salvage.{blockAt, lastGood, standIn, writtenFor, changeLine, tailLine, countOf}
+use Rattle.salvage.specs.Salvage.{countsLine, salvageRefusal, salvageOf}
 
--- A step through a file, at block k: r is its source, and `after` is what is written for it. That then stands for what comes next.
+-- A step through a file, at block k: r is its source, and `after` is what is written for it, and stands in for what comes next.
 pub record Step (file : List ℕ) (k : ℕ) (after : List ℕ) (r : ℕ) : Type 0 where
   pub source : r ≡ lastGood file (suc k)
   pub written : after ≡ writtenFor file k
   pub stands : after ≡ standIn file r
 
--- A block that was judged, where `last`, the block `source`, stood for what came before it. That is a step through any file in
--- which the block has this number.
-pub record Judged (block : List ℕ) (number : ℕ) (last : List ℕ) (source : ℕ) (after : List ℕ) (r : ℕ) : Type 0 where
+-- A block that was judged, where `before`, the block `source`, stood in before it. That is a step through any file in which the
+-- block has this number.
+pub record Judged (block : List ℕ) (number : ℕ) (before : List ℕ) (source : ℕ) (after : List ℕ) (r : ℕ) : Type 0 where
   pub answer : r ≡ cond (eqb (readRefusal block) 0) (number + 1) source
-  pub left : after ≡ cond (eqb (readRefusal block) 0) block last
-  pub step : (file : List ℕ) → blockAt file number ≡ block → source ≡ lastGood file number → last ≡ standIn file source
+  pub left : after ≡ cond (eqb (readRefusal block) 0) block before
+  pub step : (file : List ℕ) → blockAt file number ≡ block → source ≡ lastGood file number → before ≡ standIn file source
       → Step file number after r
+
+-- What may be written for a block that was read: a good block, and this very one where it is good.
+pub record Due (read block : List ℕ) : Type 0 where
+  pub good : readRefusal block ≡ 0
+  pub same : readRefusal read ≡ 0 → block ≡ read
 
 -- the sources of the first n blocks of a file
 abbrev pub SourcesOf : List ℕ → ℕ → List ℕ → Type 0
@@ -47,23 +52,17 @@ lineBy k source = cond (eqb source (k + 1)) [] (changeLine k source)
 unfoldable pub reportBy : List ℕ → ℕ → ℕ → List ℕ
 reportBy sources n tail =
     each (λ k. lineBy k (getD sources k 0)) n
-    ++ (tailLine tail ++ endLine (countOf (ownSource sources) n) (n - countOf (ownSource sources) n))
+    ++ (tailLine tail ++ countsLine (countOf (ownSource sources) n) (n - countOf (ownSource sources) n))
 
-unfoldable pub printedBy : ℕ → List ℕ → List ℕ
-printedBy size sources =
-    let n = salvageRefusal size in
-    cond (eqb n 0) (reportBy sources (wholeIn size) (tailIn size)) (refusedLine n)
-
--- What is printed of a file's length and its sources is what is to be printed of that file.
-pub record Told (size : ℕ) (sources x : List ℕ) : Type 0 where
-  pub answer : x ≡ printedBy size sources
-  pub whole : (file : List ℕ) → length file ≡ size → SourcesOf file (wholeIn size) sources → x ≡ salvageOf file .printed
-
--- What stands at the start of a buffer, r bytes, is all that is to be printed of a file, whatever was read; or it is nothing.
-pub record PrintedOf (x : List ℕ) : Type 0 where
+-- x is all that is to be printed of a file of so many bytes, whatever stands in it
+pub record PrintedOf (size : ℕ) (x : List ℕ) : Type 0 where
   pub file : List ℕ
+  pub long : length file ≡ size
   pub all : x ≡ salvageOf file .printed
 
-pub record Reports (r : ℕ) (out : List ℕ) : Type 0 where
+-- What stands in the first r bytes of a buffer: of a file that is refused its refusal; of any other all that is to be printed, or
+-- nothing, where the second file could not be made.
+pub record Reports (size r : ℕ) (out : List ℕ) : Type 0 where
   pub within : r ≤ length out
-  pub right : (r ≡ 0 → ⊥) → PrintedOf (take r out)
+  pub refused : (salvageRefusal size ≡ 0 → ⊥) → take r out ≡ refusedLine (salvageRefusal size)
+  pub told : (r ≡ 0 → ⊥) → PrintedOf size (take r out)

@@ -21,27 +21,27 @@ pub fn refusal(size: usize) -> u8
     0
 }
 
-// The power-up block for font 0 stands for what comes before the first block.
-pub fn put_power_up(last: &mut [u8])
-    requires { ⌜ length (now last) ≡ 512 ⌝ }
-    ensures { λ _. ⌜ now (last .exit) ≡ blockOf (powerUp 0) ⌝ }
+// Before the first block it is the power-up block for font 0 that stands in.
+pub fn put_power_up(stand_in: &mut [u8])
+    requires { ⌜ length (now stand_in) ≡ 512 ⌝ }
+    ensures { λ _. ⌜ now (stand_in .exit) ≡ blockOf (powerUp 0) ⌝ }
 {
     let start = Condition::power_up(0);
     let c = start.condition;
-    block::put(c, last);
+    block::put(c, stand_in);
 }
 
-// The block with this number comes after blocks of which `last` is the last good one, the block `source`, counted from 1; with none
-// `last` is the power-up block, and `source` is 0. A good block is the last good one from now on, and what stands in `last` then is
-// written for it, good or not.
-pub fn judge(block: &[u8], number: u16, last: &mut [u8], source: u16) -> u16
-    requires { ⌜ (length (now last) ≡ 512) × (number < 10000) ⌝ }
-    ensures { λ r. ⌜ Judged (now (block .entry)) number (now (last .entry)) source (now (last .exit)) r ⌝ }
+// What is written for a block is what stands in `stand_in` then, good or not: a good block comes to stand there itself. Before, the
+// last good block stood there, the one with the number `source - 1`; or the power-up block, and `source` is 0. The answer is the
+// source of what stands there then.
+pub fn judge(block: &[u8], number: u16, stand_in: &mut [u8], source: u16) -> u16
+    requires { ⌜ (length (now stand_in) ≡ 512) × (number < 10000) ⌝ }
+    ensures { λ r. ⌜ Judged (now (block .entry)) number (now (stand_in .entry)) source (now (stand_in .exit)) r ⌝ }
 {
     let reading = block::read(block);
     if reading.refusal != 0 {
         return source;
     }
-    row::copy(last, block);
+    row::copy(stand_in, block);
     number + 1
 }

@@ -1,52 +1,50 @@
 // salvage IN OUT: a file of blocks is read, and a whole second file written in which every block is good (document 02, W10).
 mod blocks;
-mod files;
+mod input;
 mod report;
+mod second;
 
 ghost use mathlib.Core.Path.{_≡_};
-ghost use mathlib.Core.Bool.{true};
-ghost use Prim.Native.Nat.{_≤_};
-ghost use lib.ListN.{length, take};
-ghost use Rattle.salvage.specs.Salvage.{wholeIn, salvageRefusal};
-ghost use Rattle.salvage.specs.Steps.{Sourced, Reports};
+ghost use lib.ListN.{length};
+ghost use Rattle.salvage.specs.Steps.{Reports};
 
-// Room for a path, and for `.PID.part` behind it.
-const PART: usize = libc::PATH_MAX + 32;
-
-// Room for all that is printed: a line of at most 26 bytes for each block, and two more.
+// Room for all that is printed: a line of at most 25 bytes for each block, and two more.
 const TEXT: usize = 262144;
 
-// The second file is made, unless the first is refused. Where it cannot be, that was said, and the answer is false.
-fn make_second(input: i32, size: usize, sources: &mut [u16], from: &[u8], to: &[u8]) -> bool
-    requires { ⌜ length (now sources) ≡ 10000 ⌝ }
-    ensures { λ r. ⌜ (r ≡ true → salvageRefusal size ≡ 0 → Sourced (wholeIn size) (now (sources .exit))) ⌝ }
+// What is to be printed of a file of so many bytes stands at the start of `out`; nothing, where there is no second file for a reason
+// that was said.
+fn salvage(first: i32, size: usize, from: &[u8], to: &[u8], out: &mut [u8]) -> usize
+    requires { ⌜ length (now out) ≡ 262144 ⌝ }
+    ensures { λ r. ⌜ Reports size r (now (out .exit)) ⌝ }
 {
-    if blocks::refusal(size) != 0 {
-        return true;
+    let refusal = blocks::refusal(size);
+    if refusal != 0 {
+        return lines::add_refused(out, 0, refusal);
     }
-    if !files::is_replaceable(to) {
-        return false;
+    let n = size / block::LENGTH;
+    let mut sources = [0u16; blocks::MOST];
+    if !second::make(first, n, &mut sources, from, to) {
+        return 0;
     }
-    let mut part = [0u8; PART];
-    let k = files::part_name(&mut part, to);
-    files::write(input, size / block::LENGTH, sources, from, &part[..k], to)
+    report::add_report(out, &sources, n, size % block::LENGTH)
 }
 
-// What is to be printed stands at the start of `out`; nothing, where there is no second file for a reason that was said.
-fn salvage(input: i32, from: &[u8], to: &[u8], out: &mut [u8]) -> usize
-    requires { ⌜ length (now out) ≡ 262144 ⌝ }
-    ensures { λ r. ⌜ Reports r (now (out .exit)) ⌝ }
-{
-    let end = files::end(input, from);
-    if end < 0 {
-        return 0;
+// The same, by the two names; all is printed once the second file has its name.
+fn salvage_named(from: &[u8], to: &[u8]) {
+    let first = os::open_read(from);
+    if first < 0 {
+        os::fail(from);
+        return;
     }
-    let size = files::plain_i64(end);
-    let mut sources = [0u16; blocks::MOST];
-    if !make_second(input, size, &mut sources, from, to) {
-        return 0;
+    let size = input::length(first, from);
+    if size < 0 {
+        return;
     }
-    report::tell(out, size, &sources)
+    let mut out = [0u8; TEXT];
+    let k = salvage(first, size as usize, from, to, &mut out);
+    if !io::write_all(libc::STDOUT_FILENO, &out[..k]) {
+        os::fail(b"standard output");
+    }
 }
 
 fn main() {
@@ -66,14 +64,5 @@ fn main() {
         os::fail(b"OUT");
         return;
     }
-    let input = os::open_read(&from[..a]);
-    if input < 0 {
-        os::fail(&from[..a]);
-        return;
-    }
-    let mut out = [0u8; TEXT];
-    let k = salvage(input, &from[..a], &to[..b], &mut out);
-    if !io::write_all(libc::STDOUT_FILENO, &out[..k]) {
-        os::fail(b"standard output");
-    }
+    salvage_named(&from[..a], &to[..b]);
 }

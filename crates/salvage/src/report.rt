@@ -2,11 +2,10 @@
 ghost use mathlib.Core.Path.{_≡_};
 ghost use Prim.Native.Nat.{_≤_, _<_};
 ghost use Rattle.laws.specs.Flags.{flag};
-ghost use lib.ListN.{length, take, getD};
+ghost use lib.ListN.{length, getD};
 ghost use Rattle.lines.specs.Lines.{Added, each};
-ghost use Rattle.salvage.specs.Salvage.{tailLine, endLine, countOf, salvageRefusal};
-ghost use Rattle.salvage.specs.Steps.{lineBy, ownSource, reportBy, Told};
-use crate::blocks::refusal;
+ghost use Rattle.salvage.specs.Salvage.{tailLine, countsLine, countOf};
+ghost use Rattle.salvage.specs.Steps.{lineBy, ownSource, reportBy};
 
 // A line comes at k where the block has another source than itself.
 fn add_change(out: &mut [u8], k: usize, number: usize, source: u16) -> usize
@@ -45,17 +44,17 @@ fn bit(on: bool) -> usize
 }
 
 // How many of the first n blocks are good.
-fn kept(sources: &[u16], n: usize) -> usize
+fn count_kept(sources: &[u16], n: usize) -> usize
     requires { ⌜ (n ≤ 10000) × (length (now sources) ≡ 10000) ⌝ }
     ensures { λ r. ⌜ (r ≡ countOf (ownSource (now (sources .entry))) n) × (r ≤ n) ⌝ }
 {
-    let mut good: usize = 0;
+    let mut kept: usize = 0;
     let mut i: usize = 0;
     while i < n {
-        good += bit(sources[i] as usize == i + 1);
+        kept += bit(sources[i] as usize == i + 1);
         i += 1;
     }
-    good
+    kept
 }
 
 // The line of a short tail comes at k, if there is one.
@@ -69,34 +68,23 @@ fn add_tail(out: &mut [u8], k: usize, tail: usize) -> usize
     lines::add_word(out, at, b" dropped\n")
 }
 
-// The last line comes at k.
-fn add_end(out: &mut [u8], k: usize, good: usize, replaced: usize) -> usize
-    ensures { λ r. ⌜ Added (now (out .entry)) k (endLine good replaced) (now (out .exit)) r ⌝ }
+// The last line comes at k: how many blocks are good, and how many were replaced.
+fn add_counts(out: &mut [u8], k: usize, kept: usize, changed: usize) -> usize
+    ensures { λ r. ⌜ Added (now (out .entry)) k (countsLine kept changed) (now (out .exit)) r ⌝ }
 {
-    let at = lines::add_number(out, k, b"kept ", good as u64);
-    let next = lines::add_number(out, at, b" changed ", replaced as u64);
+    let at = lines::add_number(out, k, b"kept ", kept as u64);
+    let next = lines::add_number(out, at, b" changed ", changed as u64);
     lines::add_word(out, next, b"\n")
 }
 
-fn add_report(out: &mut [u8], sources: &[u16], n: usize, tail: usize) -> usize
+// All that is printed of a file with n blocks and so many bytes behind them.
+pub fn add_report(out: &mut [u8], sources: &[u16], n: usize, tail: usize) -> usize
     requires { ⌜ (n ≤ 10000) × (length (now sources) ≡ 10000) ⌝ }
     ensures { λ r. ⌜ Added (now (out .entry)) 0 (reportBy (now (sources .entry)) n tail) (now (out .exit)) r ⌝ }
 {
-    let good = kept(sources, n);
+    let kept = count_kept(sources, n);
     let a = add_changes(out, sources, n);
     let b = add_tail(out, a, tail);
-    let replaced = n - good;
-    add_end(out, b, good, replaced)
-}
-
-// All that is printed of a file that has so many bytes, and the sources of its blocks.
-pub fn tell(out: &mut [u8], size: usize, sources: &[u16]) -> usize
-    requires { ⌜ (length (now out) ≡ 262144) × (length (now sources) ≡ 10000) ⌝ }
-    ensures { λ r. ⌜ Told size (now (sources .entry)) (take r (now (out .exit))) × (r ≤ length (now (out .exit))) ⌝ }
-{
-    let n = refusal(size);
-    if n != 0 {
-        return lines::add_refused(out, 0, n);
-    }
-    add_report(out, sources, size / block::LENGTH, size % block::LENGTH)
+    let changed = n - kept;
+    add_counts(out, b, kept, changed)
 }

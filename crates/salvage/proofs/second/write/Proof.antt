@@ -2,8 +2,8 @@ use mathlib.Core.Path.{refl}
 use borrow.Author.Tests.{not-false}
 use Rattle.laws.proofs.Tests.{clash}
 use borrow.Author.Needs.{needs}
-use Rattle.salvage.proofs.files.write.Statement.{statement}
-use Rattle.salvage.proofs.files.write.Tie as tie
+use Rattle.salvage.proofs.second.write.Statement.{statement}
+use Rattle.salvage.proofs.second.write.Tie as tie
 
 create-requires : tie.Need-create-requires
 create-requires c κs = search needs

@@ -2,8 +2,8 @@ use lib.Dec.{lit<}
 use mir.Syntax.{w32}
 use borrow.Author.Needs.{needs}
 use Rattle.salvage.proofs.Signs.{not-negative}
-use Rattle.salvage.proofs.files.plain_i32.Statement.{statement}
-use Rattle.salvage.proofs.files.plain_i32.Tie as tie
+use Rattle.salvage.proofs.second.plain_i32.Statement.{statement}
+use Rattle.salvage.proofs.second.plain_i32.Tie as tie
 
 returns : tie.Need-returns
 returns c = search needs

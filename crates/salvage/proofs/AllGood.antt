@@ -1,38 +1,22 @@
 -- The second file: every block of it is good, and there is nothing left to change in it.
-use Prim.Native.Nat.{ℕ, zero, suc, _+_, _*_, _/_, _≤_, _<_}
+use Prim.Native.Nat.{ℕ, zero, suc, _*_, _<_}
 use mathlib.Core.Path.{_≡_, refl, sym, ap, _∙_}
 use mathlib.Core.Bool.{Bool, true, not}
-use mathlib.Core.List.{List, [], _++_, append-nil}
+use mathlib.Core.List.{List, []}
 use native.Mathlib.Omega.{arith}
-use lib.Dec.{eqb}
-use lib.ListN.{length, take, drop, length-append, length-drop, take-append-drop}
-use lib.Seq.{length-take-le}
-use borrow.Author.Tests.{eq-eqb, eqb-true, eqb-false, ltb-true, ltb-false}
-use Rattle.laws.proofs.Tests.{by-cases, by-test}
-use Rattle.condition.specs.declared.Outcome.{Outcome}
-use Rattle.condition.specs.Condition.{powerUp}
-use Rattle.condition.proofs.Good.{Sized}
-use Rattle.condition.proofs.Kept.{power-up-good}
-use Rattle.block.specs.Block.{blockOf}
+use lib.ListN.{length}
+use borrow.Author.Tests.{eq-eqb, eqb-true}
+use Rattle.laws.proofs.Tests.{by-test, by-equal}
 use Rattle.block.specs.Reading.{readRefusal}
-use Rattle.block.proofs.RoundTrip.{Accepted, accepted, reread, refusal-of}
+use Rattle.block.proofs.RoundTrip.{accepted, power-up-accepted}
 use Rattle.lines.specs.Lines.{each}
-use Rattle.lines.proofs.Laws.{each-same}
-use Rattle.salvage.specs.Salvage.{wholeIn, tailIn, blockAt, isGood, lastGood, standIn, writtenFor, lineFor, countOf, endLine}
-use Rattle.salvage.specs.Salvage.{secondOf, reportOf, tailLine}
+use Rattle.lines.proofs.Laws.{each-even, each-same, each-none}
+use Rattle.salvage.specs.Salvage.{wholeIn, tailIn, blockAt, isGood, lastGood, standIn, writtenFor, lineFor, tailLine}
+use Rattle.salvage.specs.Salvage.{countOf, countsLine, secondOf, reportOf}
 use Rattle.salvage.proofs.Turns.{block-before, block-last, Taken}
 use Rattle.salvage.proofs.Telling.{count-not}
 
 -- What is written is good --------------------------------------------------------------------------------------------------------
-
-power-up-sized : Sized (powerUp 0)
-unfolding powerUp
-power-up-sized = record { codes-40 = refl; fonts-40 = refl; users-96 = refl; held-4 = refl }
-
-power-up-accepted : readRefusal (blockOf (powerUp 0)) ≡ 0
-power-up-accepted =
-    sym (refusal-of (blockOf (powerUp 0)))
-    ∙ ap (λ (o : Outcome). o .refusal) (reread (powerUp 0) power-up-sized (power-up-good 0 (omega arith)))
 
 last-good : (file : List ℕ) (k : ℕ) → readRefusal (standIn file (lastGood file k)) ≡ 0
 unfolding lastGood standIn
@@ -45,7 +29,7 @@ unfolding writtenFor
 written-good file k =
     by-test (λ (b : List ℕ). readRefusal b ≡ 0) (isGood file k) (λ t. eqb-true _ _ t) (λ _. last-good file k)
 
--- so is what stands for the block that was judged last
+-- so is what stands in after each block
 pub taken-good : {n : ℕ} {sources last : List ℕ} {source : ℕ} → Taken n sources last source → readRefusal last ≡ 0
 taken-good {n} t = rw (t .stands, t .from) (last-good (t .file) n)
 
@@ -56,17 +40,14 @@ written-length file k = accepted (writtenFor file k) (written-good file k) .long
 
 module _ (f : ℕ → List ℕ) (h : (k : ℕ) → length (f k) ≡ 512) where
   row-length : (n : ℕ) → length (each f n) ≡ n * 512
-  unfolding each
-  row-length zero = refl
-  row-length (suc n) = omega (arith, length-append (each f n) (f n), row-length n, h n)
+  row-length n = each-even f 512 n h
 
   row-at : (n k : ℕ) → k < n → blockAt (each f n) k ≡ f k
   unfolding each
   row-at zero k l = absurd (omega arith)
   row-at (suc n) k l =
-      by-cases (eqb k n)
-      (λ e. let m : k ≡ n = eqb-true k n e in rw m (block-last (each f n) (f n) n (row-length n) (h n)))
-      (λ e. let m : k < n = omega (arith, eqb-false k n e) in block-before (each f n) (f n) n (row-length n) k m ∙ row-at n k m)
+      by-equal k n (λ e. rw e (block-last (each f n) (f n) n (row-length n) (h n)))
+      (λ e. let m : k < n = omega (arith, e) in block-before (each f n) (f n) n (row-length n) k m ∙ row-at n k m)
 
 -- The second file ----------------------------------------------------------------------------------------------------------------
 
@@ -91,11 +72,6 @@ unfolding countOf
 count-all p zero h = refl
 count-all p (suc n) h = rw (count-all p n (λ k l. h k (omega arith)), h n (omega arith)) (omega arith)
 
-no-lines : (f : ℕ → List ℕ) (n : ℕ) → ((k : ℕ) → k < n → f k ≡ []) → each f n ≡ []
-unfolding each
-no-lines f zero h = refl
-no-lines f (suc n) h = rw (no-lines f n (λ k l. h k (omega arith)), h n (omega arith))
-
 module _ (file : List ℕ) where
   whole-again : wholeIn (length (secondOf file)) ≡ wholeIn (length file)
   whole-again = omega (arith, second-length file)
@@ -108,12 +84,12 @@ module _ (file : List ℕ) where
       (λ k h. rw (all-good file k h) (second-at file k h)))
 
   -- and all that is printed of it is `kept K changed 0`
-  pub report-again : reportOf (secondOf file) ≡ endLine (wholeIn (length file)) 0
+  pub report-again : reportOf (secondOf file) ≡ countsLine (wholeIn (length file)) 0
   unfolding reportOf lineFor tailLine
   report-again =
       let n = wholeIn (length file) in
       let none : tailIn (length (secondOf file)) ≡ 0 = omega (arith, second-length file) in
       let all = count-all (isGood (secondOf file)) n (all-good file) in
       let lost : countOf (λ k. not (isGood (secondOf file) k)) n ≡ 0 = omega (arith, count-not (isGood (secondOf file)) n) in
-      let lines = no-lines (lineFor (secondOf file)) n (λ k h. rw (all-good file k h)) in
+      let lines = each-none (lineFor (secondOf file)) n (λ k h. rw (all-good file k h)) in
       rw (whole-again, none, all, lost, lines)

@@ -2,12 +2,13 @@ use Prim.Native.Nat.{_≤_, _-_}
 use mathlib.Core.Path.{_≡_, refl, sym, _∙_}
 use native.Mathlib.Omega.{arith}
 use lib.ListN.{length, length-set}
+use borrow.Author.Tests.{eq-eqb}
 use Rattle.laws.proofs.Tests.{clash}
 use Rattle.salvage.proofs.Turns.{Taken, taken-starts, taken-turns, taken-ends}
-use Rattle.salvage.proofs.Second.{taken-good}
+use Rattle.salvage.proofs.AllGood.{taken-good}
 use borrow.Author.Needs.{needs}
-use Rattle.salvage.proofs.files.copy.Statement.{statement}
-use Rattle.salvage.proofs.files.copy.Tie as tie
+use Rattle.salvage.proofs.second.copy.Statement.{statement}
+use Rattle.salvage.proofs.second.copy.Tie as tie
 
 abbrev Inv-loop : tie.InvT-loop
 Inv-loop input output n sources₀ from part last₀ block₀ source₀ i₀ sources last block source i =
@@ -59,15 +60,21 @@ slice-write-sources c = search needs
 slice-aggregate-write-block : tie.Need-slice-aggregate-write-block Inv-loop μ-loop
 slice-aggregate-write-block c = search needs
 
+slice-aggregate-write-block-2 : tie.Need-slice-aggregate-write-block-2 Inv-loop μ-loop
+slice-aggregate-write-block-2 c = search needs
+
 write-block-requires : tie.Need-write-block-requires Inv-loop μ-loop
 write-block-requires c κs =
-    let j = c .before .before in
+    let j = c .before .before .before in
     let l = j .before .before .before .before .before .before .before .before .loop in
-    taken-good (taken-turns _ (l .inv .5) (search needs) (omega arith) (j .judge .ensures))
+    record {
+      good = taken-good (taken-turns _ (l .inv .5) (search needs) (omega arith) (j .judge .ensures));
+      same = λ z. j .judge .ensures .left ∙ rw (eq-eqb _ _ z);
+    }
 
 same-length-2 : tie.Need-same-length-2 Inv-loop μ-loop
 same-length-2 c =
-    let l = c .before .before .before .before .before .before .before .before .before .before .before .before in
+    let l = c .before .before .before .before .before .before .before .before .before .before .before .before .before in
     length-set (l .loop .sources) (l .loop .i) _
     ∙ (l .loop .inv .2 ∙ sym (l .before .before .before .before .before .before .before .pre .1))
 
@@ -82,9 +89,8 @@ loop-less c = search needs
 
 loop-again : tie.Need-loop-again Inv-loop μ-loop
 loop-again c =
-    let j = c .before .before .before .before in
-    let b = j .before .before in
-    let l = b .before .before .before .before .before .before .loop in (
+    let j = c .before .before .before .before .before in
+    let l = j .before .before .before .before .before .before .before .before .loop in (
       omega arith,
       l .inv .1,
       length-set (l .sources) (l .i) _ ∙ l .inv .2,
@@ -122,6 +128,7 @@ copy-spec =
     mul-sources
     slice-write-sources
     slice-aggregate-write-block
+    slice-aggregate-write-block-2
     write-block-requires
     same-length-2
     returns-2

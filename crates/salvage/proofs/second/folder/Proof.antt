@@ -3,8 +3,8 @@ use native.Mathlib.Omega.{arith}
 use lib.ListN.{length}
 use Rattle.io.proofs.Counting.{counts}
 use borrow.Author.Needs.{needs}
-use Rattle.salvage.proofs.files.folder.Statement.{statement}
-use Rattle.salvage.proofs.files.folder.Tie as tie
+use Rattle.salvage.proofs.second.folder.Statement.{statement}
+use Rattle.salvage.proofs.second.folder.Tie as tie
 
 abbrev Inv-loop : tie.InvT-loop
 Inv-loop name n₀ n = n ≤ length name

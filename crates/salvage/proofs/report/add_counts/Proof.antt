@@ -1,8 +1,8 @@
 use Rattle.lines.proofs.Laws.{both-added}
-use Rattle.salvage.specs.Salvage.{endLine}
+use Rattle.salvage.specs.Salvage.{countsLine}
 use borrow.Author.Needs.{needs}
-use Rattle.salvage.proofs.report.add_end.Statement.{statement}
-use Rattle.salvage.proofs.report.add_end.Tie as tie
+use Rattle.salvage.proofs.report.add_counts.Statement.{statement}
+use Rattle.salvage.proofs.report.add_counts.Tie as tie
 
 slice-aggregate-add-number : tie.Need-slice-aggregate-add-number
 slice-aggregate-add-number c = search needs
@@ -26,14 +26,14 @@ same-length : tie.Need-same-length
 same-length c = search needs
 
 returns : tie.Need-returns
-unfolding endLine
+unfolding countsLine
 returns c =
     let m = c .before .before .before .before .before .before .before in
     let n = m .before .before .before .before .before in
     both-added (n .add-number .ensures) (both-added (m .add-number2 .ensures) (c .before .before .add-word .ensures))
 
-pub add-end-spec : {M : Type 1} → statement M
-add-end-spec =
+pub add-counts-spec : {M : Type 1} → statement M
+add-counts-spec =
     tie.close
     (tie.spec
     slice-aggregate-add-number

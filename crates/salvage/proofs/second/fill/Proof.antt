@@ -2,8 +2,8 @@ use mathlib.Core.Path.{refl}
 use borrow.Author.Tests.{not-false}
 use Rattle.laws.proofs.Tests.{clash}
 use borrow.Author.Needs.{needs}
-use Rattle.salvage.proofs.files.fill.Statement.{statement}
-use Rattle.salvage.proofs.files.fill.Tie as tie
+use Rattle.salvage.proofs.second.fill.Statement.{statement}
+use Rattle.salvage.proofs.second.fill.Tie as tie
 
 copy-requires : tie.Need-copy-requires
 copy-requires c κs = search needs

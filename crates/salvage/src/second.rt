@@ -1,60 +1,18 @@
-// The two files. What fails is said on standard error, by its name and the system's words.
+// The second file. What fails is said on standard error, by its name and the system's words.
 ghost use mathlib.Core.Path.{_≡_};
 ghost use mathlib.Core.Bool.{true};
 ghost use Prim.Native.Nat.{_≤_};
 ghost use lib.ListN.{length};
 ghost use Rattle.io.specs.Counts.{Counts};
-ghost use Rattle.block.specs.Reading.{readRefusal};
-ghost use Rattle.salvage.specs.Steps.{Sourced};
+ghost use Rattle.salvage.specs.Steps.{Due, Sourced};
 use crate::blocks::judge;
 use crate::blocks::put_power_up;
+use crate::input::is_regular;
+use crate::input::read_block;
+use crate::input::say_not_regular;
 
-fn say(name: &[u8], words: &[u8]) {
-    io::write_all(libc::STDERR_FILENO, name);
-    io::write_all(libc::STDERR_FILENO, words);
-}
-
-// Linux's: the next hole from a place on.
-const SEEK_HOLE: i32 = 4;
-
-// Whether the descriptor is that of a file. A disk's own device cannot be asked for holes (an empty file has none either, but says so
-// by another error); a pipe, a terminal and a device such as /dev/null have no place 1.
-fn is_regular(fd: i32) -> bool {
-    if libc::lseek(fd, 0, SEEK_HOLE) < 0 {
-        if os::errno() == libc::EINVAL {
-            return false;
-        }
-    }
-    libc::lseek(fd, 1, libc::SEEK_SET) == 1
-}
-
-fn say_not_regular(name: &[u8]) {
-    say(name, b": not a regular file\n");
-}
-
-// Where the file ends, and it is then read from its start; or -1, after it was said why not. A directory can be opened, has places
-// and cannot be read.
-pub fn end(fd: i32, name: &[u8]) -> i64 {
-    if !is_regular(fd) {
-        say_not_regular(name);
-        return -1;
-    }
-    let mut byte = [0u8; 1];
-    if libc::read(fd, &mut byte) < 0 {
-        os::fail(name);
-        return -1;
-    }
-    let end = libc::lseek(fd, 0, libc::SEEK_END);
-    if end < 0 {
-        os::fail(name);
-        return -1;
-    }
-    if libc::lseek(fd, 0, libc::SEEK_SET) != 0 {
-        os::fail(name);
-        return -1;
-    }
-    end
-}
+// Room for a path, and for `.PID.part` behind it.
+const PART: usize = libc::PATH_MAX + 32;
 
 fn is_link(name: &[u8]) -> bool {
     let mut path = io::buffer();
@@ -66,7 +24,7 @@ fn is_link(name: &[u8]) -> bool {
 
 // Whether the second file may take this name: nothing stands there, or a file that may be written. A rename would put the file in the
 // place of a link, a device or a pipe too. Otherwise it is said why not.
-pub fn is_replaceable(name: &[u8]) -> bool {
+fn is_replaceable(name: &[u8]) -> bool {
     if is_link(name) {
         say_not_regular(name);
         return false;
@@ -88,7 +46,7 @@ pub fn is_replaceable(name: &[u8]) -> bool {
     regular
 }
 
-// Numbers that are not negative, without their sign.
+// A process's number without its sign: it has none.
 fn plain_i32(n: i32) -> u64 {
     if n < 0 {
         return 0;
@@ -96,15 +54,8 @@ fn plain_i32(n: i32) -> u64 {
     n as u64
 }
 
-pub fn plain_i64(n: i64) -> usize {
-    if n < 0 {
-        return 0;
-    }
-    n as usize
-}
-
 // The temporary file beside `to`: `to`.PID.part
-pub fn part_name(part: &mut [u8], to: &[u8]) -> usize
+fn part_name(part: &mut [u8], to: &[u8]) -> usize
     ensures { λ r. ⌜ r ≤ length (now (part .exit)) ⌝ }
 {
     let a = lines::add_word(part, 0, to);
@@ -112,24 +63,9 @@ pub fn part_name(part: &mut [u8], to: &[u8]) -> usize
     lines::add_word(part, b, b".part")
 }
 
-// The next block. The file was longer when it was measured, so one that is not whole is a failure too. (Of a regular file one call
-// reads all that is asked for and there.)
-fn read_block(fd: i32, block: &mut [u8], name: &[u8]) -> bool {
-    let got = libc::read(fd, block);
-    if got < 0 {
-        os::fail(name);
-        return false;
-    }
-    if got != 512 {
-        say(name, b": it became shorter while it was read\n");
-        return false;
-    }
-    true
-}
-
-// Only a good block is written.
-fn write_block(fd: i32, block: &[u8], name: &[u8]) -> bool
-    requires { ⌜ readRefusal (now block) ≡ 0 ⌝ }
+// What is due for the block that was read is written; `read` is there for that promise alone.
+fn write_block(fd: i32, block: &[u8], read: &[u8], name: &[u8]) -> bool
+    requires { ⌜ Due (now read) (now block) ⌝ }
 {
     if !io::write_all(fd, block) {
         os::fail(name);
@@ -143,8 +79,8 @@ fn copy(input: i32, output: i32, n: usize, sources: &mut [u16], from: &[u8], par
     requires { ⌜ (n ≤ 10000) × (length (now sources) ≡ 10000) ⌝ }
     ensures { λ r. ⌜ (r ≡ true → Sourced n (now (sources .exit))) ⌝ }
 {
-    let mut last = [0u8; block::LENGTH];
-    put_power_up(&mut last);
+    let mut stand_in = [0u8; block::LENGTH];
+    put_power_up(&mut stand_in);
     let mut block = [0u8; block::LENGTH];
     let mut source: u16 = 0;
     let mut i: usize = 0;
@@ -152,9 +88,9 @@ fn copy(input: i32, output: i32, n: usize, sources: &mut [u16], from: &[u8], par
         if !read_block(input, &mut block, from) {
             return false;
         }
-        source = judge(&block, i as u16, &mut last, source);
+        source = judge(&block, i as u16, &mut stand_in, source);
         sources[i] = source;
-        if !write_block(output, &last, part) {
+        if !write_block(output, &stand_in, &block, part) {
             return false;
         }
         i += 1;
@@ -221,7 +157,7 @@ fn settle(name: &[u8]) {
 
 // The second file is written whole under the name `part`, and then takes the name `to`, in the place of what stood there. Where that
 // fails nothing of it is left.
-pub fn write(input: i32, n: usize, sources: &mut [u16], from: &[u8], part: &[u8], to: &[u8]) -> bool
+fn write(input: i32, n: usize, sources: &mut [u16], from: &[u8], part: &[u8], to: &[u8]) -> bool
     requires { ⌜ (n ≤ 10000) × (length (now sources) ≡ 10000) ⌝ }
     ensures { λ r. ⌜ (r ≡ true → Sourced n (now (sources .exit))) ⌝ }
 {
@@ -241,4 +177,17 @@ pub fn write(input: i32, n: usize, sources: &mut [u16], from: &[u8], part: &[u8]
     }
     settle(to);
     true
+}
+
+// The second file is made of the first n blocks. Where it cannot be, that was said, and the answer is false.
+pub fn make(input: i32, n: usize, sources: &mut [u16], from: &[u8], to: &[u8]) -> bool
+    requires { ⌜ (n ≤ 10000) × (length (now sources) ≡ 10000) ⌝ }
+    ensures { λ r. ⌜ (r ≡ true → Sourced n (now (sources .exit))) ⌝ }
+{
+    if !is_replaceable(to) {
+        return false;
+    }
+    let mut part = [0u8; PART];
+    let k = part_name(&mut part, to);
+    write(input, n, sources, from, &part[..k], to)
 }

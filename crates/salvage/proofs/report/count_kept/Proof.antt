@@ -6,15 +6,15 @@ use Rattle.salvage.specs.Salvage.{countOf}
 use Rattle.salvage.specs.Steps.{ownSource}
 use Rattle.salvage.proofs.Telling.{count-next}
 use borrow.Author.Needs.{needs}
-use Rattle.salvage.proofs.report.kept.Statement.{statement}
-use Rattle.salvage.proofs.report.kept.Tie as tie
+use Rattle.salvage.proofs.report.count_kept.Statement.{statement}
+use Rattle.salvage.proofs.report.count_kept.Tie as tie
 
 abbrev Inv-loop : tie.InvT-loop
-Inv-loop sources n good₀ i₀ good i =
-    (i ≤ n) × (n ≤ 10000) × (length sources ≡ 10000) × (good ≤ i) × (good ≡ countOf (ownSource sources) i)
+Inv-loop sources n kept₀ i₀ kept i =
+    (i ≤ n) × (n ≤ 10000) × (length sources ≡ 10000) × (kept ≤ i) × (kept ≡ countOf (ownSource sources) i)
 
 abbrev μ-loop : tie.MeasureT-loop
-μ-loop sources n good₀ i₀ good i = n - i
+μ-loop sources n kept₀ i₀ kept i = n - i
 
 loop-holds : tie.Need-loop-holds Inv-loop μ-loop
 unfolding countOf
@@ -35,8 +35,8 @@ add-bit c = omega arith
 bit-requires : tie.Need-bit-requires Inv-loop μ-loop
 bit-requires c κs = search needs
 
-add-good : tie.Need-add-good Inv-loop μ-loop
-add-good c = omega arith
+add-kept : tie.Need-add-kept Inv-loop μ-loop
+add-kept c = omega arith
 
 add-i : tie.Need-add-i Inv-loop μ-loop
 add-i c = omega arith
@@ -55,8 +55,8 @@ returns c =
     let e : l .i ≡ c .before .before .before .args .n = omega (arith, c .loop-test .left) in
     (rw e at (l .inv .4), omega arith)
 
-pub kept-spec : {M : Type 1} → statement M
-kept-spec =
+pub count-kept-spec : {M : Type 1} → statement M
+count-kept-spec =
     tie.close
     (tie.spec
     Inv-loop
@@ -67,7 +67,7 @@ kept-spec =
     cast-bit
     add-bit
     bit-requires
-    add-good
+    add-kept
     add-i
     loop-less
     loop-again
