@@ -9,10 +9,10 @@ ghost use Rattle.salvage.specs.Steps.{Judged};
 use condition::Condition;
 
 // As many blocks as a file may have.
-pub const MOST: usize = 10000;
+pub(crate) const MOST: usize = 10000;
 
 // A file of so many bytes is refused by 4 if it has more whole blocks.
-pub fn refusal(size: usize) -> u8
+pub(crate) fn refusal(size: usize) -> u8
     ensures { λ r. ⌜ r ≡ salvageRefusal size ⌝ }
 {
     if MOST < size / block::LENGTH {
@@ -22,7 +22,7 @@ pub fn refusal(size: usize) -> u8
 }
 
 // Before the first block it is the power-up block for font 0 that stands in.
-pub fn put_power_up(stand_in: &mut [u8])
+pub(crate) fn put_power_up(stand_in: &mut [u8])
     requires { ⌜ length (now stand_in) ≡ 512 ⌝ }
     ensures { λ _. ⌜ now (stand_in .exit) ≡ blockOf (powerUp 0) ⌝ }
 {
@@ -34,7 +34,7 @@ pub fn put_power_up(stand_in: &mut [u8])
 // What is written for a block is what stands in `stand_in` then, good or not: a good block comes to stand there itself. Before, the
 // last good block stood there, the one with the number `source - 1`; or the power-up block, and `source` is 0. The answer is the
 // source of what stands there then.
-pub fn judge(block: &[u8], number: u16, stand_in: &mut [u8], source: u16) -> u16
+pub(crate) fn judge(block: &[u8], number: u16, stand_in: &mut [u8], source: u16) -> u16
     requires { ⌜ (length (now stand_in) ≡ 512) × (number < 10000) ⌝ }
     ensures { λ r. ⌜ Judged (now (block .entry)) number (now (stand_in .entry)) source (now (stand_in .exit)) r ⌝ }
 {

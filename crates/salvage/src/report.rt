@@ -78,7 +78,7 @@ fn add_counts(out: &mut [u8], k: usize, kept: usize, changed: usize) -> usize
 }
 
 // All that is printed of a file with n blocks and so many bytes behind them.
-pub fn add_report(out: &mut [u8], sources: &[u16], n: usize, tail: usize) -> usize
+pub(crate) fn add_report(out: &mut [u8], sources: &[u16], n: usize, tail: usize) -> usize
     requires { ⌜ (n ≤ 10000) × (length (now sources) ≡ 10000) ⌝ }
     ensures { λ r. ⌜ Added (now (out .entry)) 0 (reportBy (now (sources .entry)) n tail) (now (out .exit)) r ⌝ }
 {

@@ -180,7 +180,7 @@ fn write(input: i32, n: usize, sources: &mut [u16], from: &[u8], part: &[u8], to
 }
 
 // The second file is made of the first n blocks. Where it cannot be, that was said, and the answer is false.
-pub fn make(input: i32, n: usize, sources: &mut [u16], from: &[u8], to: &[u8]) -> bool
+pub(crate) fn make(input: i32, n: usize, sources: &mut [u16], from: &[u8], to: &[u8]) -> bool
     requires { ⌜ (n ≤ 10000) × (length (now sources) ≡ 10000) ⌝ }
     ensures { λ r. ⌜ (r ≡ true → Sourced n (now (sources .exit))) ⌝ }
 {
