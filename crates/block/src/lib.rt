@@ -1,4 +1,5 @@
 // The condition as bytes: the 512-byte block (document 01, Block).
+#![tactic(auto)]
 ghost use Rattle.std.specs.Prelude.{◌≡◌, ◌≤◌, cond, length};
 ghost use Rattle.block.specs.Block.{weigh, check_of, put_over};
 ghost use Rattle.block.specs.Reading.{intact, damage_of, refused_of, ReadPromise};
@@ -15,7 +16,7 @@ pub const LENGTH: usize = 512;
 const MODULUS: u32 = 65521;
 
 // What writing a block gives: a refusal number, 0 when accepted, and the length written.
-#[derive(Drop)]
+#[derive(Clone, Copy)]
 pub struct Written {
     pub refusal: u8,
     pub length: u16,

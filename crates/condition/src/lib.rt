@@ -1,4 +1,5 @@
 // A module's condition: what it holds, when it is well formed, and power-up.
+#![tactic(auto)]
 ghost use Rattle.std.specs.Prelude.{◌≡◌};
 ghost use Rattle.condition.specs.Condition.{idle, held_of, numbers_good};
 ghost use Rattle.condition.specs.Condition.{scroll_good, well_formed, power_up, power_up_answer};
@@ -7,7 +8,7 @@ ghost use Rattle.condition.specs.Rows.{rows_good};
 use users::Users;
 
 // The half-received command. A user character's data has its code and the count of bytes held.
-#[derive(Drop)]
+#[derive(Clone, Copy)]
 pub enum Pending {
     Nothing,
     Escape,
@@ -18,7 +19,7 @@ pub enum Pending {
     UserData(u8, u8),
 }
 
-#[derive(Drop)]
+#[derive(Clone, Copy)]
 pub struct Condition {
     // The 40 cells: a code each, and a font each.
     pub codes: [u8; Condition::CELLS],
@@ -45,14 +46,14 @@ pub struct Condition {
 }
 
 // What a reading or power-up gives: a refusal number, 0 when accepted, and a condition.
-#[derive(Drop)]
+#[derive(Clone, Copy)]
 pub struct Outcome {
     pub refusal: u8,
     pub condition: Condition,
 }
 
 // A byte's busy time, in microseconds: the quick figure, and the worst one, which flickerless mode may reach.
-#[derive(Drop)]
+#[derive(Clone, Copy)]
 pub struct Figures {
     pub quick: u8,
     pub worst: u16,

@@ -1,10 +1,11 @@
 // The dots of a user character (document 01, What a cell shows).
+#![tactic(auto)]
 ghost use Rattle.std.specs.Prelude.{◌≡◌, ◌≤◌};
 ghost use Rattle.std.specs.Int.Count.{ones};
 ghost use Rattle.dots.specs.Dots.{byte_of, dot_of, underline_of, lit_of};
 
 // A user character's five bytes.
-#[derive(Drop)]
+#[derive(Clone, Copy)]
 pub struct Character {
     pub d1: u8,
     pub d2: u8,

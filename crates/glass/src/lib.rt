@@ -1,4 +1,5 @@
 // What the glass shows of a condition: what a cell shows, and the dots of a user character.
+#![tactic(auto)]
 ghost use Rattle.std.specs.Prelude.{◌≡◌};
 ghost use Rattle.users.specs.Users.{found_in, character_at};
 ghost use Rattle.glass.specs.Shows.{shows_code, euro_or};
@@ -9,7 +10,7 @@ use dots::Character;
 use users::Found;
 
 // What a cell shows: nothing, the user character of a code, the Euro mark, or a built-in code in a font.
-#[derive(Drop)]
+#[derive(Clone, Copy)]
 pub enum Shows {
     Blank,
     User(u8),
@@ -17,14 +18,14 @@ pub enum Shows {
     BuiltIn(u8, u8),
 }
 
-#[derive(Drop)]
+#[derive(Clone, Copy)]
 pub struct Seen {
     pub refusal: u8,
     pub shows: Shows,
 }
 
 // What a question about a user character gives.
-#[derive(Drop)]
+#[derive(Clone, Copy)]
 pub struct Answer {
     pub refusal: u8,
     pub value: u32,

@@ -1,11 +1,12 @@
 // What the calls of the C host program on a block share: opening it, and an answer with its refusal as one number.
+#![tactic(auto)]
 ghost use Rattle.std.specs.Prelude.{◌≡◌, ◌≤◌};
 ghost use Rattle.host.specs.Host.{opened_of, base_of, host_answer};
 
 use condition::{Condition, Outcome};
 
 // The base of the refusals in an answer: above the longest plan, or above what a question can answer.
-#[derive(Drop)]
+#[derive(Clone, Copy)]
 pub enum Base {
     Plan,
     Question,

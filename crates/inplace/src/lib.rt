@@ -1,5 +1,6 @@
 // What bytes do to a condition, worked out in place on the condition packed in 200 bytes, with the index of its user codes lent
 // beside them.
+#![tactic(auto)]
 ghost use Rattle.std.specs.Prelude.{◌≡◌};
 ghost use Rattle.inplace.specs.Carry.{untouched_of, after_of};
 
@@ -19,7 +20,7 @@ mod run;
 const MOST_BYTES: usize = 32768;
 
 // What bytes add to the tally beside their number: their busy time, how many come while flickerless is on, their worst busy time.
-#[derive(Drop)]
+#[derive(Clone, Copy)]
 pub struct Spent {
     pub busy: u32,
     pub flickerless: u32,
@@ -27,7 +28,7 @@ pub struct Spent {
 }
 
 // What carrying bytes out answers: a refusal number, 0 when accepted, the condition after them, and what they spend.
-#[derive(Drop)]
+#[derive(Clone, Copy)]
 pub struct After {
     pub refusal: u8,
     pub condition: Condition,

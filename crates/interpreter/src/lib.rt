@@ -1,11 +1,12 @@
 // A run: what bytes do to a condition and to the tally.
+#![tactic(auto)]
 ghost use Rattle.std.specs.Prelude.{◌≡◌};
 ghost use Rattle.interpreter.specs.Run.{within_limit, zero_tally, refused_of, RunPromise, LentPromise};
 
 use condition::Condition;
 
 // What a run adds to: bytes, busy microseconds, bytes received while flickerless was already on, busy microseconds at the worst.
-#[derive(Drop)]
+#[derive(Clone, Copy)]
 pub struct Tally {
     pub bytes: u32,
     pub busy: u32,
@@ -31,7 +32,7 @@ impl Tally {
 }
 
 // A run's answer: a refusal number, 0 when accepted, and the condition and the tally after it.
-#[derive(Drop)]
+#[derive(Clone, Copy)]
 pub struct Ran {
     pub refusal: u8,
     pub condition: Condition,

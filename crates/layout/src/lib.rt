@@ -1,4 +1,5 @@
 // Where each part of a condition stands in a block's first 200 bytes (document 01, Block).
+#![tactic(auto)]
 ghost use Rattle.std.specs.Prelude.{◌≡◌, ◌&&◌, ◌++◌, ◌≤◌, length};
 ghost use Rattle.laws.specs.Flags.{flag};
 ghost use Rattle.condition.specs.Condition.{held_of, numbers_good, scroll_good, well_formed};
@@ -63,7 +64,7 @@ fn bit(on: bool) -> u8
 }
 
 // A half-received command in its three bytes.
-#[derive(Drop)]
+#[derive(Clone, Copy)]
 struct Half {
     kind: u8,
     code: u8,

@@ -34,7 +34,7 @@ fn bit(on: bool) -> u8
 }
 
 // What is half received, in three bytes.
-#[derive(Drop)]
+#[derive(Clone, Copy)]
 struct Half {
     kind: u8,
     code: u8,

@@ -1,4 +1,5 @@
 // The lounge module, the CU20026MCPB: its condition, what pairs of bytes do to it, and what a cell shows.
+#![tactic(auto)]
 ghost use Rattle.std.specs.Prelude.{◌≡◌};
 ghost use Rattle.lounge.specs.Condition.{held_of, is_area, area_formed, numbers_formed, scroll_formed, well_formed, reset_of};
 ghost use Rattle.lounge.specs.Run.{kinds_formed, refused_of, RunPromise};
@@ -18,7 +19,7 @@ mod sequences;
 
 // What is half received: nothing; ESC; a user character's data, with its code and the count of bytes held; an area code that
 // awaits its first position; one that awaits its second, with the first.
-#[derive(Drop)]
+#[derive(Clone, Copy)]
 pub enum Pending {
     Nothing,
     Escape,
@@ -27,7 +28,7 @@ pub enum Pending {
     Second(u8, u8),
 }
 
-#[derive(Drop)]
+#[derive(Clone, Copy)]
 pub struct Lounge {
     // The 40 characters: a code each, and its marks: 1 bright, 2 blink, 4 underline, added.
     pub codes: [u8; Lounge::CELLS],
@@ -50,14 +51,14 @@ pub struct Lounge {
 }
 
 // A run's answer: a refusal number, 0 when accepted, and the condition after it.
-#[derive(Drop)]
+#[derive(Clone, Copy)]
 pub struct Ran {
     pub refusal: u8,
     pub condition: Lounge,
 }
 
 // What a cell shows: nothing, the user character of a code, or a built-in code.
-#[derive(Drop)]
+#[derive(Clone, Copy)]
 pub enum Shows {
     Blank,
     User(u8),
@@ -65,14 +66,14 @@ pub enum Shows {
 }
 
 // The luminance: A, or B, which is 40 % of it.
-#[derive(Drop)]
+#[derive(Clone, Copy)]
 pub enum Level {
     A,
     B,
 }
 
 // What is seen of a cell, with a refusal number, 0 when accepted.
-#[derive(Drop)]
+#[derive(Clone, Copy)]
 pub struct Seen {
     pub refusal: u8,
     pub shows: Shows,

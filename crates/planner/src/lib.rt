@@ -1,4 +1,5 @@
 // The planners: the bytes that give a picture and a cursor, in one font or in two.
+#![tactic(auto)]
 ghost use Rattle.std.specs.Prelude.{◌≡◌};
 ghost use Rattle.planner.specs.Answer.{plan_refusal, Plans, PlansFonts, Counts};
 
@@ -15,7 +16,7 @@ pub const ROOM: usize = 44;
 pub const ROOM_FONTS: usize = 104;
 
 // What a planner, or a recovery, answers: a refusal number, 0 when accepted, and the plan's length, 0 when refused.
-#[derive(Drop)]
+#[derive(Clone, Copy)]
 pub struct Planned {
     pub refusal: u8,
     pub length: u8,

@@ -1,4 +1,5 @@
 // A reel: pictures in turn, each planned from where the one before leaves the module.
+#![tactic(auto)]
 ghost use Rattle.std.specs.Prelude.{◌≡◌, ◌+◌, ◌*◌, ◌≤◌, ◌<◌, length, take, drop};
 ghost use mathlib.Core.List.{flatten};
 ghost use Rattle.planner.specs.Plan.{at_start, pictured};
@@ -11,14 +12,14 @@ use condition::Condition;
 pub const MOST: usize = 64;
 
 // Where a reel is refused: the picture, and its refusal number, 0 for none.
-#[derive(Drop)]
+#[derive(Clone, Copy)]
 pub struct Stop {
     pub picture: u8,
     pub refusal: u8,
 }
 
 // What a reel answers: where it is refused; all its bytes together, and the length of each plan, all 0 when refused.
-#[derive(Drop)]
+#[derive(Clone, Copy)]
 pub struct Reeled {
     pub stop: Stop,
     pub bytes: u32,

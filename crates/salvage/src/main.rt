@@ -1,4 +1,5 @@
 // salvage IN OUT: a file of blocks is read, and a whole second file written in which every block is good (document 02, W10).
+#![tactic(auto)]
 mod blocks;
 mod input;
 mod report;

@@ -1,4 +1,5 @@
 // Runs standard input from power-up font 0 with a zero tally, and prints the codes, the cursor and the tally.
+#![tactic(auto)]
 ghost use Rattle.std.specs.Prelude.{◌≡◌, ◌≤◌, length, take};
 ghost use Rattle.lines.specs.Lines.{Added, run_from_start};
 ghost use Rattle.show.specs.Report.{place_line, shown_of};

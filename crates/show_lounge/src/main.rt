@@ -1,5 +1,6 @@
 // Runs standard input, pairs of a kind and a byte, on the lounge module from reset, and prints the codes, the marks, the cursor
 // and the user characters.
+#![tactic(auto)]
 ghost use Rattle.std.specs.Prelude.{◌≡◌, true, ◌++◌, ◌*◌, ◌≤◌, length, take};
 ghost use Rattle.laws.specs.Flags.{flag};
 ghost use Rattle.lines.specs.Lines.{Added, text, each, hex_line};
@@ -13,7 +14,7 @@ use users::Users;
 
 // What is kept of the input beyond the pairs that a run may have: whether there is any, whether its length is odd, and whether a
 // kind is above 1.
-#[derive(Drop)]
+#[derive(Clone, Copy)]
 struct Rest {
     some: bool,
     odd: bool,

@@ -1,5 +1,6 @@
 // Runs standard input from power-up font 0 with a zero tally that is lent, and tells what each cell shows, what each user character
 // looks like, and the tally.
+#![tactic(auto)]
 ghost use Rattle.std.specs.Prelude.{◌≡◌, ◌≤◌, min, length, take};
 ghost use Rattle.interpreter.specs.Run.{RunPromise};
 ghost use Rattle.lines.specs.Lines.{Added, each, run_from_start};

@@ -1,5 +1,7 @@
 // User characters in places of six bytes, a code and five bytes, the oldest first. A condition has 16 places, that of the
 // lounge module eight.
+#![tactic(auto)]
+
 ghost use Rattle.std.specs.Prelude.{◌≡◌, ◌+◌, ◌*◌, ◌≤◌, length};
 ghost use Rattle.users.specs.Users.{room_of, limit_of, found_in, is_found, character_at, put_of};
 ghost use Rattle.users.specs.Users.{users_in, leaving_of, removed, define_in};
@@ -7,7 +9,7 @@ ghost use Rattle.users.specs.Users.{absent, users_formed, held_formed};
 
 use dots::Character;
 
-#[derive(Drop)]
+#[derive(Clone, Copy)]
 pub struct Users {
     pub bytes: [u8; Users::BYTES],
     pub count: u8,
@@ -29,7 +31,7 @@ impl Users {
 }
 
 // The lookup of a code: its place, counted from the oldest, or none.
-#[derive(Drop)]
+#[derive(Clone, Copy)]
 pub enum Found {
     Missing,
     At(usize),

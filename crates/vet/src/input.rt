@@ -2,7 +2,7 @@
 ghost use Rattle.std.specs.Prelude.{◌≤◌, length};
 
 // Whether a file could be read, and how many of its bytes stand at the buffer's start.
-#[derive(Drop)]
+#[derive(Clone, Copy)]
 pub(crate) struct Got {
     pub(crate) had: bool,
     pub(crate) size: usize,

@@ -1,5 +1,6 @@
 // vet BLOCK PICTURE STRING: whether the bytes of the file STRING give the picture of the file PICTURE, from the block of the file
 // BLOCK (document 02, W11); and why not.
+#![tactic(auto)]
 mod input;
 
 ghost use Rattle.std.specs.Prelude.{◌≡◌, ◌≤◌, length, take};

@@ -1,5 +1,6 @@
 // Vetting: does a string of other people's bytes use only the planner's steps in reading order, and give the wanted picture and
 // cursor? Yes or why not; and how much longer it is than the plan.
+#![tactic(auto)]
 ghost use Rattle.std.specs.Prelude.{◌≡◌, ◌-◌, ◌≤◌, length};
 ghost use Rattle.planner.specs.Answer.{plan_refusal};
 ghost use Rattle.vetting.specs.Vetting.{long_refusal, Vets, VetsBlock};
@@ -13,7 +14,7 @@ mod steps;
 pub const MOST: usize = 32768;
 
 // What is said of a string.
-#[derive(Drop)]
+#[derive(Clone, Copy)]
 pub enum Verdict {
     // a refusal number
     Refused(u8),

@@ -6,7 +6,7 @@ ghost use Rattle.vetting.specs.Steps.{char_in, is_jump, move_of};
 use condition::Condition;
 
 // A move: how many bytes it has, 0 for none, and where it leads.
-#[derive(Drop)]
+#[derive(Clone, Copy)]
 pub(crate) struct Moved {
     pub(crate) bytes: u8,
     pub(crate) to: u8,
