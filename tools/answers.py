@@ -27,6 +27,18 @@ def write(path, text):
         f.write(text)
 
 
+def step_hits(steps, cited):
+    """The steps that a citation may mean, by their older names: with dashes, a count after a dash, or `_lem` from port.py."""
+    plain = lambda s: re.sub(r"_lem$", "", s).replace("-", "_")
+    counted = lambda s: re.sub(r"-(\d+)$", r"\1", re.sub(r"_lem$", "", s)).replace("-", "_")
+    bare = lambda s: re.sub(r"_?\d+$", "", plain(s))
+    for like in (plain, counted, bare):
+        hits = [k for k, old in enumerate(steps) if old and like(old) == like(cited)]
+        if hits:
+            return hits
+    return []
+
+
 def items(text):
     """The imports and the items of a proof file: each a list of lines, with the comments above it."""
     uses, found, now = [], [], []
@@ -75,45 +87,47 @@ class Fn:
                 return p
         return None
 
-    # A path from a place: its steps back, then a step and its fields.
-    def path(self, place, segs, goal, var):
-        here, at = place, 0
-        while at < len(segs) and segs[at] == "before":
-            if here is None or self.step[here][0] is None:
-                self.say(f"{goal}: too many `before` in {'.'.join(segs)} from {place}")
-                return None, None
-            here = self.step[here][0]
-            at += 1
-        rest = segs[at:]
-        if not rest:
-            return here, None
-        if here is None:
-            return None, None
-        if self.step[here][0] is None:
-            return here, [*rest]
-        parent, was, now, i = self.step[here]
-        if rest[0].replace("-", "_") == was.replace("-", "_"):
-            return here, self.fields(here, i, now, rest[1:], was)
-        # A field of a place before, which needed no `before`
-        look = parent
-        while look is not None:
-            p, w, n, k = self.step[look]
-            if w and rest[0].replace("-", "_") == w.replace("-", "_"):
-                return look, self.fields(look, k, n, rest[1:], w)
-            look = p
-        if rest[0] in ("args", "requires", "ranges", "lifetimes"):
-            return here, rest
-        self.say(f"{goal}: no step {rest[0]} at {here} ({was})")
-        return here, rest
+    def chain(self, place):
+        """The places from this one back to the start."""
+        while place is not None:
+            yield place
+            place = self.step[place][0]
 
-    def fields(self, place, i, now, rest, was):
+    # A path from a place: its steps back, then a step and its fields. A place is the goal's, and how far back from there.
+    def path(self, place, segs, goal, var):
+        origin, at = place
+        chain = list(self.chain(origin))
+        k = 0
+        while k < len(segs) and segs[k] == "before":
+            k += 1
+        at, rest = at + k, segs[k:]
+        if not rest:
+            return (origin, at), None
+        if rest[0] in ("args", "requires", "ranges", "lifetimes"):
+            return (origin, len(chain) - 1), rest
+        hits = step_hits([self.step[p][1] for p in chain], rest[0])
+        if not hits:
+            self.say(f"{goal}: no step {rest[0]} from {origin}")
+            return (origin, at), rest
+        best = min(hits, key=lambda h: abs(h - at))
+        if len(hits) > 1 and best != at:
+            self.say(f"{goal}: which {rest[0]} from {origin}? {[chain[h] for h in hits]}")
+        _, was, now, i = self.step[chain[best]]
+        return (origin, best), self.fields(chain[best], i, now, rest[1:], was, origin)
+
+    def named(self, place):
+        origin, at = place
+        chain = list(self.chain(origin))
+        return self.new_place[chain[min(at, len(chain) - 1)]]
+
+    def fields(self, place, i, now, rest, was, origin):
         """The step's new name and its fields; an arm's are looked up in the names."""
         for k in range(i, len(self.names["arms"])):
             arm = self.names["arms"][k]
             if not arm:
                 continue
             for field, step, path in arm[2]:
-                if step == was and path and rest[: len(path)] == path and self.below(k, place):
+                if step == was and path and rest[: len(path)] == path and self.below(k, place) and self.names["places"][k][0] in self.chain(origin):
                     return [arm[0], field, *rest[len(path) :]]
         if was == "match" and rest and rest[0] == "rest":
             return [now]
@@ -130,20 +144,9 @@ class Fn:
     def flat(self, new, top):
         return ".".join([top, *new])
 
-    def turn(self, body, env, goal, top="c", own=None):
+    def turn(self, body, env, goal, top="c"):
         """Paths in the text of an answer or a lemma."""
         env = dict(env)
-        # let k = c.before.before in
-        def gone(m):
-            var, src = m.group(1), m.group(2).split(".")
-            if src[0] in env and env[src[0]] is not None and not isinstance(env[src[0]], str):
-                return m.group(0)
-            if src[0] in env and all(s == "before" for s in src[1:]):
-                here, rest = self.path(env[src[0]], src[1:], goal, src[0])
-                env[var] = here
-                return ""
-            return m.group(0)
-
         while True:
             m = re.search(r"(?:^|(?<=[\s(]))let ([\w'\-]+) = ([a-z][\w'\-]*(?:\.before)*) in\s*", body)
             if not m:
@@ -165,21 +168,11 @@ class Fn:
             here, new = self.path(env[parts[0]], parts[1:], goal, parts[0])
             if new is not None:
                 out.append(self.flat(new, top))
-            elif here is not None:
-                if own is not None and here == own:
-                    out.append(top)
-                elif len(parts) == 1 and here == env.get(top):
-                    out.append(top)
-                else:
-                    out.append(f"(goal.at.{goal} {top}).{self.new_place[here]}")
+            elif here[1] == 0:
+                out.append(top)
             else:
-                out.append(t)
+                out.append(f"(goal.at.{goal} {top}).{self.named(here)}")
         return "".join(out)
-
-
-def binder(line, name):
-    m = re.match(re.escape(name) + r"((?: [^\s=]+)*) =(.*)$", line)
-    return m
 
 
 def turn_function(crate, path, names, keep_searches=False):
@@ -195,6 +188,8 @@ def turn_function(crate, path, names, keep_searches=False):
     index = {}
     if len(answers) == len(needs):
         index = {a: i for i, a in enumerate(answers)}
+    elif len([a for a in answers if not a.startswith("slice-aggregate")]) == len(needs):
+        index = {a: i for i, a in enumerate([a for a in answers if not a.startswith("slice-aggregate")])}
     else:
         fn.say(f"{len(answers)} answers for {len(needs)} needs")
     olds = {}
@@ -202,8 +197,10 @@ def turn_function(crate, path, names, keep_searches=False):
         olds[o.replace("_", "-")] = i
     inv, ans = [], []
     for it in found:
-        code = [l for l in it if not l.startswith("--")]
+        code = trim([l for l in it if not l.startswith("--")])
         notes = [l for l in it if l.startswith("--")]
+        if not code:
+            continue
         head = code[0]
         m = re.match(r"((?:(?:abbrev|pub|unfoldable) )*)([^\s()]+) :(.*)$", head)
         if not m:
@@ -228,6 +225,8 @@ def turn_function(crate, path, names, keep_searches=False):
             sub = {}
             want = len(live) + sum(ch)
             if len(vars_) != want:
+                vars_ = [v for v in vars_ if not re.match(r"t\d+₀?$", v)]
+            if len(vars_) != want:
                 fn.say(f"{nm}: {len(vars_)} variables, {want} wanted: {vars_} for {live} {ch}")
             now_vars = [v for v, c in zip(live, ch) if c]
             for v, l, c in zip(vars_, live, ch):
@@ -245,6 +244,8 @@ def turn_function(crate, path, names, keep_searches=False):
                 key = re.sub(r"^overflow-", "", key)
                 key = re.sub(r"^slice-bounds-", "part-", key)
                 i = olds.get(key.replace("_", "-"))
+            if i is None and need.group(1).startswith("slice-aggregate"):
+                continue
             if i is None:
                 fn.say(f"no goal for {nm} ({sig.strip()})")
                 ans.append(("raw", "\n".join(it)))
@@ -264,7 +265,7 @@ def turn_function(crate, path, names, keep_searches=False):
             if SEARCHES.match(term) and not unf and not keep_searches:
                 continue
             c = bs[0]
-            t = fn.turn(term, {c: place}, new, c)
+            t = fn.turn(term, {c: (place, 0)}, new, c)
             ans.append(("goal", "\n".join(notes + [f"pub {new} : goal.{new}"] + unf + [f"{new} {c} ={t}"]), new))
             continue
         # a lemma over a place
@@ -284,10 +285,10 @@ def turn_function(crate, path, names, keep_searches=False):
             pre, post = t[:k], t[k:]
             # the variable's name in the clause
             cl = re.search(r"(?m)^" + re.escape(nm) + r"((?:\s+[^\s=]+)+)\s*=", post)
-            env = {var: pl}
+            env = {var: (pl, 0)}
             if cl:
-                env[cl.group(1).split()[0]] = pl
-            t = pre + fn.turn(post, env, nm, var, own=pl)
+                env[cl.group(1).split()[0]] = (pl, 0)
+            t = pre + fn.turn(post, env, nm, var)
             ans.append(("lemma", "\n".join(notes) + ("\n" if notes else "") + t))
             continue
         mm = re.match(r"\s*tie\.([\w'\-]+)[^→]* → (.*)$", sig)
@@ -296,7 +297,7 @@ def turn_function(crate, path, names, keep_searches=False):
             body = "\n".join(code[1:])
             b2 = re.search(re.escape(nm) + r" (\w+)", body)
             var = b2.group(1) if b2 else "c"
-            t = fn.turn(body, {var: pl}, nm, var, own=pl)
+            t = fn.turn(body, {var: (pl, 0)}, nm, var)
             ans.append(("lemma", "\n".join(notes + [f"{m.group(1)}{nm} : goal.{fn.new_place[pl]} → {mm.group(2)}", t])))
             continue
         if "tie." in "\n".join(code):

@@ -1,0 +1,8 @@
+use Rattle.block.specs.Tidy.{tidy}
+use borrow.Author.Rules.{rules}
+use Rattle.block.proofs.is_tidy.Goals as goal
+
+pub returns : goal.returns
+unfolding tidy
+returns c =
+    rw (c.up_to.ensures, c.kind_good.ensures, c.requires.1)

@@ -1,0 +1,26 @@
+use Rattle.glass.specs.Answers.{dot_answer}
+use native.Mathlib.Omega.{arith}
+use borrow.Author.Tests.{le-leb, lt-leb}
+use borrow.Author.Rules.{rules}
+use Rattle.glass.proofs.dot.Goals as goal
+
+pub returns-then-k-lt1 : goal.returns-then-k-lt1
+unfolding dot_answer
+returns-then-k-lt1 c = rw (lt-leb 1 c.args.k (omega (arith, c.if-k-lt1.true)))
+
+pub returns-then-k-gt35 : goal.returns-then-k-gt35
+unfolding dot_answer
+returns-then-k-gt35 c =
+    let k = c.args.k in
+    rw (le-leb 1 k (omega (arith, c.if-k-gt35.true)), lt-leb k 35 (omega (arith, c.if-k-gt35.true)))
+
+pub returns-in_default : goal.returns-in_default
+unfolding dot_answer
+returns-in_default c =
+    rw (le-leb 1 _ c.if-k-lt1.false, le-leb _ 35 c.if-k-gt35.false, ← c.lookup.ensures, c.in_default.is)
+
+pub returns : goal.returns
+unfolding dot_answer
+returns c =
+    rw (le-leb 1 _ c.if-k-lt1.false, le-leb _ 35 c.if-k-gt35.false, ← c.lookup.ensures, c.in-At.is)
+    (rw (c.dot.ensures, c.drawn.ensures))

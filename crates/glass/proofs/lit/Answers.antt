@@ -1,0 +1,12 @@
+use Rattle.glass.specs.Answers.{lit_answer}
+use borrow.Author.Rules.{rules}
+use Rattle.glass.proofs.lit.Goals as goal
+
+pub returns-in_default : goal.returns-in_default
+unfolding lit_answer
+returns-in_default c = rw (← c.lookup.ensures, c.in_default.is)
+
+pub returns : goal.returns
+unfolding lit_answer
+returns c =
+    rw (← c.lookup.ensures, c.in-At.is, c.lit.ensures, c.drawn.ensures)

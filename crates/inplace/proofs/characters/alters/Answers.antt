@@ -1,0 +1,27 @@
+use Rattle.inplace.proofs.InPlace.{pending-at}
+use Rattle.inplace.proofs.Branches.{awaits-data}
+use borrow.Author.Rules.{rules}
+use Rattle.inplace.proofs.characters.alters.Goals as goal
+
+pub returns-in-1 : goal.returns-in-1
+returns-in-1 c = rw (pending-at, c.in-1.is)
+
+pub returns-in-2 : goal.returns-in-2
+returns-in-2 c = rw (pending-at, c.in-2.is)
+
+pub returns-in-3 : goal.returns-in-3
+returns-in-3 c = rw (pending-at, c.in-3.is)
+
+pub returns-in-4 : goal.returns-in-4
+returns-in-4 c = rw (pending-at, c.in-4.is)
+
+pub returns-in-5 : goal.returns-in-5
+returns-in-5 c = rw (pending-at, c.in-5.is)
+
+pub returns-in_default : goal.returns-in_default
+returns-in_default c =
+    let r = c.in_default in
+    rw (
+      pending-at,
+      awaits-data _ _ _ (search rules) r.0.0.0.0.1 r.0.0.0.1 r.0.0.1 r.0.1 r.1,
+    )

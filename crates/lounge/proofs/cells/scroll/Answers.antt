@@ -1,0 +1,12 @@
+use mathlib.Core.Path.{◌∙◌}
+use Rattle.row.proofs.Laws.{on-picture}
+use borrow.Author.Rules.{rules}
+use Rattle.lounge.proofs.cells.scroll.Goals as goal
+
+pub returns : goal.returns
+returns c =
+    let a = c.args in (
+      c.scroll.ensures ∙ on-picture _ a.codes.now (search rules),
+      c.scroll-2.ensures
+          ∙ on-picture _ a.marks.now (search rules),
+    )

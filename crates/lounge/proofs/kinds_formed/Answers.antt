@@ -1,0 +1,27 @@
+use mathlib.Core.Path.{◌≡◌, refl, sym, ◌∙◌}
+use mathlib.Core.Logic.{inl, inr, ⊎_elim}
+use mathlib.Core.Bool.{◌&&◌}
+use Prim.Native.Nat.{◌-◌, ◌≤◌}
+use native.Mathlib.Omega.{arith}
+use lib.Dec.{leb}
+use lib.ListN.{length, drop}
+use Rattle.lounge.specs.Run.{kinds_formed}
+use Rattle.lounge.proofs.Turns.{kinds-turn, kinds-ended}
+use Rattle.lounge.proofs.kinds_formed.Goals as goal
+
+pub loop-i-init : goal.loop-i-init
+loop-i-init c = (refl, omega arith)
+
+pub loop-i-preserved : goal.loop-i-preserved
+loop-i-preserved c =
+    let a = c.args in
+    let l = c.loop-i in
+    let more = kinds-turn a.pairs.now l.i l.most c.if-most-pairs.most (omega arith) in
+    ⊎_elim (λ w. (l.invariant.0 ∙ more (omega arith) (omega arith) (inr (omega arith)), omega arith))
+    (λ w. (l.invariant.0 ∙ more (omega arith) (omega arith) (inl (omega arith)), omega arith)) c.if-most-pairs.branch
+
+pub returns : goal.returns
+returns c =
+    let a = c.args in
+    let l = c.loop-i in
+    sym (l.invariant.0 ∙ kinds-ended a.pairs.now l.i l.most (omega (arith, c.loop-i-test.false)))

@@ -1,0 +1,25 @@
+use mathlib.Core.Path.{◌≡◌, refl}
+use mathlib.Core.List.{map, ◌++◌}
+use Prim.Native.Nat.{◌-◌, ◌≤◌}
+use native.Mathlib.Omega.{arith}
+use borrow.Author.Rules.{rules}
+use lib.ListN.{length, take, drop}
+use Rattle.lounge.specs.Marks.{unmarked, cancelled}
+use Rattle.laws.proofs.Lists.{map-turn, map-done}
+use Rattle.lounge.proofs.marking.cancel.Goals as goal
+
+pub loop-i-init : goal.loop-i-init
+loop-i-init c = (refl, omega arith, refl)
+
+pub loop-i-preserved : goal.loop-i-preserved
+loop-i-preserved c =
+    let a = c.args in
+    let l = c.loop-i in
+    (map-turn (unmarked a.k) a.marks.now l.marks l.i l.invariant.0 (omega arith), omega arith, search rules)
+
+pub returns : goal.returns
+unfolding cancelled
+returns c =
+    let a = c.args in
+    let l = c.loop-i in
+    map-done (unmarked a.k) a.marks.now l.marks l.i l.invariant.0 (omega arith)

@@ -1,0 +1,60 @@
+use mathlib.Core.Path.{◌≡◌, sym, ap, ◌∙◌}
+use mathlib.Core.Bool.{Bool, true, ◌&&◌, and-false}
+use mathlib.Core.List.{List}
+use Prim.Native.Nat.{ℕ}
+use native.Mathlib.Omega.{arith}
+use borrow.Author.Tests.{not-true, not-false}
+use Rattle.lounge.specs.Condition.{well_formed}
+use Rattle.lounge.specs.Run.{kinds_formed}
+use Rattle.lounge.specs.Head.{lounge_in}
+use Rattle.lounge.proofs.Stores.{head-back}
+use Rattle.lounge.proofs.Kept.{Sized}
+use Rattle.lounge.proofs.Answers.{odd, not-formed, too_many, accepted, carried}
+use borrow.Author.Rules.{rules}
+use Rattle.lounge.proofs.run.Goals as goal
+
+sized : (c : goal.Start) → Sized c.args.c
+sized c = record { codes-40 = search rules; marks-40 = search rules; users-48 = search rules; held-4 = search rules }
+
+-- what the tests have told: the condition and the kinds are well formed
+is-formed : (c : goal.Else-not-well_formed) → well_formed c.args.c ≡ true
+is-formed c = sym c.well_formed-2.ensures ∙ not-false _ c.if-not-well_formed.false
+
+kinds : (c : goal.Else-not-kinds_formed) → kinds_formed c.args.pairs.now ≡ true
+kinds c = sym c.kinds_formed.ensures ∙ not-false _ c.if-not-kinds_formed.false
+
+pub returns-then-pairs-eq1 : goal.returns-then-pairs-eq1
+returns-then-pairs-eq1 c = odd _ _ _ c.if-pairs-eq1.true c.refused.ensures
+
+pub returns-then-not-well_formed : goal.returns-then-not-well_formed
+returns-then-not-well_formed c =
+    let k = kinds_formed c.args.pairs.now in
+    let no-formed = sym c.well_formed-2.ensures ∙ not-true _ c.if-not-well_formed.true in
+    not-formed _ _ _ c.if-pairs-eq1.false (ap (λ (t : Bool). t && k) no-formed) c.refused-then-not-well_formed.ensures
+
+pub returns-then-not-kinds_formed : goal.returns-then-not-kinds_formed
+returns-then-not-kinds_formed c =
+    let w = well_formed c.args.c in
+    let no-formed = sym c.kinds_formed.ensures ∙ not-true _ c.if-not-kinds_formed.true in
+    not-formed _ _ _ c.if-pairs-eq1.false (ap (λ (t : Bool). w && t) no-formed
+    ∙ and-false w) c.refused-then-not-kinds_formed.ensures
+
+pub returns-then-pairs-gt-MOST_PAIRS : goal.returns-then-pairs-gt-MOST_PAIRS
+returns-then-pairs-gt-MOST_PAIRS c =
+    too_many _ _ _ c.if-pairs-eq1.false (is-formed (goal.at.returns-then-pairs-gt-MOST_PAIRS c).Else-not-well_formed) (kinds (goal.at.returns-then-pairs-gt-MOST_PAIRS c).Else-not-kinds_formed)
+    c.if-pairs-gt-MOST_PAIRS.true c.refused-then-pairs-gt-MOST_PAIRS.ensures
+
+pub run_in-requires : goal.run_in-requires
+run_in-requires c =
+    let e = c.if-pairs-eq1.false in
+    let same = ap (λ (h : List ℕ). lounge_in h c.args.c.codes c.args.c.marks c.args.c.users)
+    c.head-h.ensures
+    ∙ head-back c.args.c (sized (goal.at.run_in-requires c).Start).held-4 in
+    (search rules, search rules, search rules, search rules, ap well_formed same ∙ is-formed (goal.at.run_in-requires c).Else-not-well_formed, omega arith)
+
+pub returns : goal.returns
+returns c =
+    accepted _ _ _ c.if-pairs-eq1.left (is-formed (goal.at.returns c).Else-not-well_formed) (kinds (goal.at.returns c).Else-not-kinds_formed)
+    c.if-pairs-gt-MOST_PAIRS.false
+    (sized (goal.at.returns c).Start)
+    (carried _ _ _ _ _ _ _ _ (sized (goal.at.returns c).Start) c.head-h.ensures c.run_in.ensures c.whole.ensures)

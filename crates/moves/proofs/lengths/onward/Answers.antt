@@ -1,0 +1,10 @@
+use native.Mathlib.Omega.{arith}
+use Rattle.moves.proofs.Four.{onward-length}
+use borrow.Author.Rules.{rules}
+use Rattle.moves.proofs.lengths.onward.Goals as goal
+
+pub returns-then-from-to : goal.returns-then-from-to
+returns-then-from-to c = omega (arith, onward-length c.args.from c.args.to)
+
+pub returns : goal.returns
+returns c = omega (arith, onward-length c.args.from c.args.to)

@@ -1,0 +1,12 @@
+use borrow.Author.Tests.{lt-ltb, le-ltb}
+use Rattle.moves.specs.Moves.{next}
+use borrow.Author.Rules.{rules}
+use Rattle.moves.proofs.next.Goals as goal
+
+pub returns-then-p-lt-LAST_PLACE : goal.returns-then-p-lt-LAST_PLACE
+unfolding next
+returns-then-p-lt-LAST_PLACE c = rw (lt-ltb _ _ c.if-p-lt-LAST_PLACE.true)
+
+pub returns : goal.returns
+unfolding next
+returns c = rw (le-ltb _ _ c.if-p-lt-LAST_PLACE.false)

@@ -1,0 +1,16 @@
+use mathlib.Core.Path.{sym, ◌∙◌}
+use mathlib.Core.Logic.{⊎_elim}
+use Prim.Native.Nat.{◌-◌}
+use borrow.Author.Rules.{rules}
+use Rattle.planner.proofs.Canvas.{wrong_in}
+use Rattle.planner.proofs.Counting.{Planning, plan-start, plan-skip, plan-write, plan-end}
+use Rattle.planner.proofs.Counting.{way-room, code-room, end-room, end-long}
+use Rattle.planner.proofs.Started.{clearing-long, clear_room, room_by, put-by}
+use Rattle.planner.proofs.bytes.put_plan.Given as goal
+
+abbrev pub invariant-loop-i : goal.invariant-loop-i
+invariant-loop-i l =
+    Planning l.euro l.wanted l.fonts l.codes l.standing l.asked l.initial.p l.initial.selected l.initial.k l.initial.out l.out l.p l.selected l.k l.i
+
+abbrev pub decreases-loop-i : goal.decreases-loop-i
+decreases-loop-i l = 40 - l.i

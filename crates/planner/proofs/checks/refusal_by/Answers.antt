@@ -1,0 +1,12 @@
+use Rattle.planner.specs.Answer.{refusal_by}
+use borrow.Author.Rules.{rules}
+use Rattle.planner.proofs.checks.refusal_by.Goals as goal
+
+pub returns : goal.returns
+unfolding refusal_by
+returns c = rw (
+  c.lowest.ensures,
+  c.some_lacks-lacking.ensures,
+  c.is_idle-idle.ensures,
+  c.well_formed-formed.ensures,
+)

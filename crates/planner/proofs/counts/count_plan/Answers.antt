@@ -1,0 +1,63 @@
+use mathlib.Core.Path.{sym, ◌∙◌}
+use mathlib.Core.Logic.{⊎_elim}
+use Prim.Native.Nat.{ℕ, ◌+◌, ◌-◌, ◌<◌}
+use native.Mathlib.Omega.{arith}
+use borrow.Author.Rules.{rules}
+use Rattle.moves.proofs.Rule.{fewest-length}
+use Rattle.planner.proofs.Canvas.{wrong_in}
+use Rattle.planner.proofs.Counting.{Counting, count-start, count-skip, count-sum, count_fits, count-write, count-end}
+use Rattle.planner.proofs.Counting.{end_fits}
+use Rattle.planner.proofs.Started.{count_by, clear-most}
+use Rattle.planner.proofs.counts.count_plan.Goals as goal
+
+-- What is counted is the plan -----------------------------------------------------------------------------------------------------
+pub loop-j-init : goal.loop-j-init
+loop-j-init c = count-start _ _ _ _ _ _ _ _ _ c.requires.cursor-40
+
+pub loop-j-preserved : goal.loop-j-preserved
+unfolding wrong_in
+loop-j-preserved c =
+    let v = c.loop-j.invariant in
+    let d = c.differs.ensures in
+    ⊎_elim
+    (λ w.
+    let sum = count-sum _ _ _ _ _ _ _ _ v _ _ w.1.ensures w.2.ensures (search rules) in
+    count-write _ _ _ _ _ _ _ _ v _ _ _ (search rules) (sym d ∙ w.0.taken) (w.6 ∙ sum) (w.4 ∙ w.3.ensures) w.5)
+    (λ w. count-skip _ _ _ _ _ _ _ _ v _ _ _ (search rules) (sym d ∙ w.0.left) w.1 w.2 w.3)
+    c.if-differs.branch
+
+pub returns : goal.returns
+returns c =
+    let v = c.loop-j.invariant in
+    rw (fewest-length _ _ _ c.number-last.ensures v.inside c.requires.asked-40)
+    (count_by c.args.clear _ _ _ _ _ _ c.codes_at-codes.ensures c.fonts_at-standing.ensures _
+    (count-end _ _ _ _ _ _ _ _ v (search rules)))
+
+-- a byte holds what is counted
+abbrev Sum : goal.After-switch_length-more → ℕ
+Sum c =
+    let before = c.loop-j.n in
+    before + c.number-way.result + c.switch_length-more.result + 1
+
+fits : (c : goal.After-switch_length-more) → Sum c < 256
+unfolding wrong_in
+fits c =
+    let v = c.loop-j.invariant in
+    let one = clear-most c.args.clear in
+    let sum = count-sum _ _ _ _ _ _ _ _ v _ _ c.number-way.ensures c.switch_length-more.ensures (search rules) in
+    rw sum (count_fits _ _ _ _ _ _ _ _ v one (search rules) (sym c.differs.ensures ∙ c.if-differs.true))
+
+pub overflow_add-n : goal.overflow_add-n
+overflow_add-n c = omega (arith, fits c)
+
+pub overflow_add-n-then-differs : goal.overflow_add-n-then-differs
+overflow_add-n-then-differs c = omega (arith, fits c)
+
+pub overflow_add-n-then-differs-2 : goal.overflow_add-n-then-differs-2
+overflow_add-n-then-differs-2 c = omega (arith, fits c)
+
+pub overflow_add-result : goal.overflow_add-result
+overflow_add-result c =
+    let v = c.loop-j.invariant in
+    let last = fewest-length _ _ _ c.number-last.ensures v.inside c.requires.asked-40 in
+    omega (arith, last, end_fits _ _ _ _ _ _ _ _ v (clear-most c.args.clear) (search rules))

@@ -1,0 +1,17 @@
+use mathlib.Core.Path.{sym, ◌∙◌}
+use borrow.Author.Tests.{lt-ltb, le-ltb}
+use borrow.Author.Rules.{rules}
+use Rattle.users.proofs.leaving.Goals as goal
+
+pub returns-in-At : goal.returns-in-At
+returns-in-At c = rw (sym c.find.ensures ∙ c.in-At.is)
+
+pub returns-then-limit-room : goal.returns-then-limit-room
+returns-then-limit-room c =
+    let none = sym c.find.ensures ∙ c.in_default.is in
+    rw (none, ← c.limit.ensures.0, ← c.room.ensures, lt-ltb _ _ c.if-limit-room.true)
+
+pub returns-else-limit-room : goal.returns-else-limit-room
+returns-else-limit-room c =
+    let none = sym c.find.ensures ∙ c.in_default.is in
+    rw (none, ← c.limit.ensures.0, ← c.room.ensures, le-ltb _ _ c.if-limit-room.false)

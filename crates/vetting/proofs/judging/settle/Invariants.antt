@@ -1,0 +1,14 @@
+use Prim.Native.Nat.{◌-◌}
+use lib.ListN.{get_or}
+use borrow.Author.Tests.{eq-eqb, ne_eqb}
+use borrow.Author.Rules.{rules}
+use Rattle.planner.specs.Fonts.{wrong_cell}
+use Rattle.vetting.proofs.Settling.{Looked, look-first, look-on, look-found, look-end}
+use Rattle.vetting.proofs.judging.settle.Given as goal
+
+abbrev pub invariant-loop-j : goal.invariant-loop-j
+invariant-loop-j l =
+    Looked (λ l.j. wrong_cell (get_or l.codes l.j 0) (get_or l.fonts l.j 0) (get_or l.wanted l.j 0) l.font) l.j
+
+abbrev pub decreases-loop-j : goal.decreases-loop-j
+decreases-loop-j l = 40 - l.j
