@@ -21,19 +21,19 @@ is_tidy-tidy-requires c = (search rules, c.is_rest_zero-zeros.ensures)
 pub returns-then-not-intact : goal.returns-then-not-intact
 unfolding damage_of
 returns-then-not-intact c =
-    rw (eq-eqb _ _ c.if-block-ne-LENGTH.false, sym c.is_intact-intact.ensures ∙ not-true _ c.if-not-intact.true)
+    rw (eq-eqb _ _ c.if-block-ne-LENGTH.false, sym c.is_intact-intact.ensures ∙ c.if-not-intact.true)
 
 -- where it is intact, a block is tidy exactly when it is that of its condition
 pub returns-then-not-tidy : goal.returns-then-not-tidy
 unfolding damage_of
 returns-then-not-tidy c =
-    let whole = sym c.is_intact-intact.ensures ∙ not-false _ c.if-not-intact.false in
-    let own = sym (tidy-same _ c.if-block-ne-LENGTH.false whole) ∙ sym c.is_tidy-tidy.ensures ∙ not-true _ c.if-not-tidy.true in
+    let whole = sym c.is_intact-intact.ensures ∙ c.if-not-intact.false in
+    let own = sym (tidy-same _ c.if-block-ne-LENGTH.false whole) ∙ sym c.is_tidy-tidy.ensures ∙ c.if-not-tidy.true in
     rw (eq-eqb _ _ c.if-block-ne-LENGTH.false, whole, own)
 
 pub returns : goal.returns
 unfolding damage_of
 returns c =
-    let whole = sym c.is_intact-intact.ensures ∙ not-false _ c.if-not-intact.false in
-    let own = sym (tidy-same _ c.if-block-ne-LENGTH.false whole) ∙ sym c.is_tidy-tidy.ensures ∙ not-false _ c.if-not-tidy.false in
+    let whole = sym c.is_intact-intact.ensures ∙ c.if-not-intact.false in
+    let own = sym (tidy-same _ c.if-block-ne-LENGTH.false whole) ∙ sym c.is_tidy-tidy.ensures ∙ c.if-not-tidy.false in
     rw (eq-eqb _ _ c.if-block-ne-LENGTH.false, whole, own)

@@ -4,8 +4,9 @@ use native.Mathlib.Omega.{arith}
 use lib.ListN.{length-set}
 use borrow.Author.Rules.{rules}
 use Rattle.block.proofs.put.Goals as goal
+use Rattle.block.proofs.put.Goals.{Start}
 
-sized : (c : goal.Start) → Sized c.args.c
+sized : (c : Start) → Sized c.args.c
 sized c = record { codes-40 = search rules; fonts-40 = search rules; users-96 = search rules; held-4 = search rules }
 
 pub returns-then-room-lt-LENGTH : goal.returns-then-room-lt-LENGTH

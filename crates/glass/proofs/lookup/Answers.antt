@@ -6,9 +6,9 @@ use Rattle.glass.proofs.lookup.Goals as goal
 
 pub returns-then-not-well_formed : goal.returns-then-not-well_formed
 unfolding lookup_of
-returns-then-not-well_formed c = rw (sym c.well_formed-2.ensures ∙ not-true _ c.if-not-well_formed.true)
+returns-then-not-well_formed c = rw (sym c.well_formed-2.ensures ∙ c.if-not-well_formed.true)
 
 pub returns : goal.returns
 unfolding lookup_of
 returns c =
-    rw (c.found.ensures, sym c.well_formed-2.ensures ∙ not-false _ c.if-not-well_formed.false)
+    rw (c.found.ensures, sym c.well_formed-2.ensures ∙ c.if-not-well_formed.false)

@@ -5,9 +5,10 @@ use Rattle.glass.specs.Shows.{shows_code}
 use borrow.Author.Tests.{le-ltb, lt-ltb}
 use borrow.Author.Rules.{rules}
 use Rattle.glass.proofs.shows_code.Goals as goal
+use Rattle.glass.proofs.shows_code.Goals.{After-is_found}
 
 -- whether a user character sits on the code, by the lookup
-user : (c : goal.After-is_found) {t : Bool} → c.is_found.result ≡ t
+user : (c : After-is_found) {t : Bool} → c.is_found.result ≡ t
     → is_user c.args.c.users c.args.code ≡ t
 unfolding is_user
 user c e = rw (← c.find.ensures) (sym c.is_found.ensures ∙ e)

@@ -9,16 +9,16 @@ use Rattle.glass.proofs.view.Goals as goal
 
 pub returns-then-not-well_formed : goal.returns-then-not-well_formed
 unfolding view_answer
-returns-then-not-well_formed c = rw (sym c.well_formed-2.ensures ∙ not-true _ c.if-not-well_formed.true)
+returns-then-not-well_formed c = rw (sym c.well_formed-2.ensures ∙ c.if-not-well_formed.true)
 
 pub returns-then-i-ge-CELLS : goal.returns-then-i-ge-CELLS
 unfolding view_answer
 returns-then-i-ge-CELLS c =
     let past : 39 < c.args.position = omega (arith, c.if-i-ge-CELLS.true) in
-    rw (sym c.well_formed-2.ensures ∙ not-false _ c.if-not-well_formed.false, lt-leb _ _ past)
+    rw (sym c.well_formed-2.ensures ∙ c.if-not-well_formed.false, lt-leb _ _ past)
 
 pub returns : goal.returns
 unfolding view_answer shows_of
 returns c =
     let inside : c.args.position ≤ 39 = omega (arith, c.if-i-ge-CELLS.false) in
-    rw (c.shows_code.ensures, sym c.well_formed-2.ensures ∙ not-false _ c.if-not-well_formed.false, le-leb _ _ inside)
+    rw (c.shows_code.ensures, sym c.well_formed-2.ensures ∙ c.if-not-well_formed.false, le-leb _ _ inside)

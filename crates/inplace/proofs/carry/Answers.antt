@@ -7,25 +7,26 @@ use Rattle.layout.proofs.PackedBack.{enough}
 use Rattle.inplace.proofs.Carrying.{told, starts, carries, not-formed, too_long, carried}
 use borrow.Author.Rules.{rules}
 use Rattle.inplace.proofs.carry.Goals as goal
+use Rattle.inplace.proofs.carry.Goals.{After-is_formed, Else-not-is_formed-agree, Start}
 
-sized : (c : goal.Start) → Sized c.args.t1
+sized : (c : Start) → Sized c.args.t1
 sized c = record { codes-40 = search rules; fonts-40 = search rules; users-96 = search rules; held-4 = search rules }
 
-abbrev start : goal.After-is_formed → tie.Start
+abbrev start : After-is_formed → tie.Start
 start c = (goal.at.start c).Start
 
 -- what the tests tell
-formed : (c : goal.After-is_formed) → (c.is_formed.result && c.same-agree.result) ≡ well_formed (start c).args.t1
+formed : (c : After-is_formed) → (c.is_formed.result && c.same-agree.result) ≡ well_formed (start c).args.t1
 formed c =
     told _ _ _ (sized (goal.at.formed c).Start) c.packed-s.ensures (search rules) c.reindex.ensures _ _ c.is_formed.ensures
     c.same-agree.ensures
 
-well : (c : goal.Else-not-is_formed-agree) → well_formed (start (goal.at.well c).After-is_formed).args.t1 ≡ true
-well c = sym (formed (goal.at.well c).After-is_formed) ∙ not-false _ c.if-not-is_formed-agree.false
+well : (c : Else-not-is_formed-agree) → well_formed (start (goal.at.well c).After-is_formed).args.t1 ≡ true
+well c = sym (formed (goal.at.well c).After-is_formed) ∙ c.if-not-is_formed-agree.false
 
 pub returns-then-not-is_formed-agree : goal.returns-then-not-is_formed-agree
 returns-then-not-is_formed-agree c =
-    not-formed _ _ _ (sym (formed (goal.at.returns-then-not-is_formed-agree c).After-is_formed) ∙ not-true _ c.if-not-is_formed-agree.true) c.untouched.ensures
+    not-formed _ _ _ (sym (formed (goal.at.returns-then-not-is_formed-agree c).After-is_formed) ∙ c.if-not-is_formed-agree.true) c.untouched.ensures
 
 pub returns-then-bytes-gt-MOST_BYTES : goal.returns-then-bytes-gt-MOST_BYTES
 returns-then-bytes-gt-MOST_BYTES c =

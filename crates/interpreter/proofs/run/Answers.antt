@@ -11,34 +11,35 @@ use Rattle.interpreter.specs.Run.{within_limit}
 use Rattle.interpreter.proofs.Answers.{Within, within, above-limit, not_carried, passes-limit, accepted, adds, tallies, ran}
 use borrow.Author.Rules.{rules}
 use Rattle.interpreter.proofs.run.Goals as goal
+use Rattle.interpreter.proofs.run.Goals.{Else-after-ne0, Else-not-within_limit, Start}
 
-sized : (c : goal.Start) → Sized c.args.c
+sized : (c : Start) → Sized c.args.c
 sized c = record { codes-40 = search rules; fonts-40 = search rules; users-96 = search rules; held-4 = search rules }
 
 -- the tally is within its limits
-limited : (c : goal.Else-not-within_limit) → within_limit c.args.t ≡ true
-limited c = sym c.within_limit.ensures ∙ not-false _ c.if-not-within_limit.false
+limited : (c : Else-not-within_limit) → within_limit c.args.t ≡ true
+limited c = sym c.within_limit.ensures ∙ c.if-not-within_limit.false
 
 -- the bytes were carried out, and what they did
-whole : (c : goal.Else-after-ne0)
+whole : (c : Else-after-ne0)
     → carry_refusal c.args.c
     c.args.bytes.now ≡ 0
 whole c = sym (refusal_is _ _ _ c.carry-after.ensures) ∙ c.if-after-ne0.false
 
-did : (c : goal.Else-after-ne0)
+did : (c : Else-after-ne0)
     → Carried c.args.c
     c.args.bytes.now c.carry-after.result.condition
     c.carry-after.result.spent
 did c = taken _ _ _ c.carry-after.ensures c.if-after-ne0.false
 
 -- what is added fits: the tally is within its limits, and the bytes add little
-fits : (c : goal.Else-after-ne0)
+fits : (c : Else-after-ne0)
     → Within c.args.t × Small c.carry-after.result.spent
 fits c = (within _ (limited (goal.at.fits c).Else-not-within_limit), adds _ _ _ _ (did c) (accepts _ _ (whole c)).1)
 
 pub returns-then-not-within_limit : goal.returns-then-not-within_limit
 returns-then-not-within_limit c =
-    above-limit _ _ _ _ (sym c.within_limit.ensures ∙ not-true _ c.if-not-within_limit.true) c.refused.ensures
+    above-limit _ _ _ _ (sym c.within_limit.ensures ∙ c.if-not-within_limit.true) c.refused.ensures
 
 pub returns-then-after-ne0 : goal.returns-then-after-ne0
 returns-then-after-ne0 c =
@@ -65,10 +66,10 @@ pub returns-then-not-within_limit-2 : goal.returns-then-not-within_limit-2
 returns-then-not-within_limit-2 c =
     passes-limit _ _ _ _ (limited (goal.at.returns-then-not-within_limit-2 c).Else-not-within_limit) (whole (goal.at.returns-then-not-within_limit-2 c).Else-after-ne0)
     (sym (ap within_limit (tallies _ _ _ _ (did (goal.at.returns-then-not-within_limit-2 c).Else-after-ne0) _)) ∙ sym c.within_limit-2.ensures
-    ∙ not-true _ c.if-not-within_limit-2.true) c.refused-then-not-within_limit-2.ensures
+    ∙ c.if-not-within_limit-2.true) c.refused-then-not-within_limit-2.ensures
 
 pub returns : goal.returns
 returns c =
     accepted _ _ _ _ (limited (goal.at.returns c).Else-not-within_limit) (whole (goal.at.returns c).Else-after-ne0)
-    (sym (ap within_limit (tallies _ _ _ _ (did (goal.at.returns c).Else-after-ne0) _)) ∙ sym c.within_limit-2.ensures ∙ not-false _ c.if-not-within_limit-2.false)
+    (sym (ap within_limit (tallies _ _ _ _ (did (goal.at.returns c).Else-after-ne0) _)) ∙ sym c.within_limit-2.ensures ∙ c.if-not-within_limit-2.false)
     (sized (goal.at.returns c).Start) (λ i. (c.shared_slice_known-1.given i).fits) (ran _ _ _ _ (did (goal.at.returns c).Else-after-ne0) _)

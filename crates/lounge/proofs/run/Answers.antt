@@ -12,16 +12,17 @@ use Rattle.lounge.proofs.Kept.{Sized}
 use Rattle.lounge.proofs.Answers.{odd, not-formed, too_many, accepted, carried}
 use borrow.Author.Rules.{rules}
 use Rattle.lounge.proofs.run.Goals as goal
+use Rattle.lounge.proofs.run.Goals.{Else-not-kinds_formed, Else-not-well_formed, Start}
 
-sized : (c : goal.Start) → Sized c.args.c
+sized : (c : Start) → Sized c.args.c
 sized c = record { codes-40 = search rules; marks-40 = search rules; users-48 = search rules; held-4 = search rules }
 
 -- what the tests have told: the condition and the kinds are well formed
-is-formed : (c : goal.Else-not-well_formed) → well_formed c.args.c ≡ true
-is-formed c = sym c.well_formed-2.ensures ∙ not-false _ c.if-not-well_formed.false
+is-formed : (c : Else-not-well_formed) → well_formed c.args.c ≡ true
+is-formed c = sym c.well_formed-2.ensures ∙ c.if-not-well_formed.false
 
-kinds : (c : goal.Else-not-kinds_formed) → kinds_formed c.args.pairs.now ≡ true
-kinds c = sym c.kinds_formed.ensures ∙ not-false _ c.if-not-kinds_formed.false
+kinds : (c : Else-not-kinds_formed) → kinds_formed c.args.pairs.now ≡ true
+kinds c = sym c.kinds_formed.ensures ∙ c.if-not-kinds_formed.false
 
 pub returns-then-pairs-eq1 : goal.returns-then-pairs-eq1
 returns-then-pairs-eq1 c = odd _ _ _ c.if-pairs-eq1.true c.refused.ensures
@@ -29,13 +30,13 @@ returns-then-pairs-eq1 c = odd _ _ _ c.if-pairs-eq1.true c.refused.ensures
 pub returns-then-not-well_formed : goal.returns-then-not-well_formed
 returns-then-not-well_formed c =
     let k = kinds_formed c.args.pairs.now in
-    let no-formed = sym c.well_formed-2.ensures ∙ not-true _ c.if-not-well_formed.true in
+    let no-formed = sym c.well_formed-2.ensures ∙ c.if-not-well_formed.true in
     not-formed _ _ _ c.if-pairs-eq1.false (ap (λ (t : Bool). t && k) no-formed) c.refused-then-not-well_formed.ensures
 
 pub returns-then-not-kinds_formed : goal.returns-then-not-kinds_formed
 returns-then-not-kinds_formed c =
     let w = well_formed c.args.c in
-    let no-formed = sym c.kinds_formed.ensures ∙ not-true _ c.if-not-kinds_formed.true in
+    let no-formed = sym c.kinds_formed.ensures ∙ c.if-not-kinds_formed.true in
     not-formed _ _ _ c.if-pairs-eq1.false (ap (λ (t : Bool). w && t) no-formed
     ∙ and-false w) c.refused-then-not-kinds_formed.ensures
 
@@ -54,7 +55,7 @@ run_in-requires c =
 
 pub returns : goal.returns
 returns c =
-    accepted _ _ _ c.if-pairs-eq1.left (is-formed (goal.at.returns c).Else-not-well_formed) (kinds (goal.at.returns c).Else-not-kinds_formed)
+    accepted _ _ _ c.if-pairs-eq1.false (is-formed (goal.at.returns c).Else-not-well_formed) (kinds (goal.at.returns c).Else-not-kinds_formed)
     c.if-pairs-gt-MOST_PAIRS.false
     (sized (goal.at.returns c).Start)
     (carried _ _ _ _ _ _ _ _ (sized (goal.at.returns c).Start) c.head-h.ensures c.run_in.ensures c.whole.ensures)

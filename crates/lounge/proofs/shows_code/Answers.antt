@@ -6,9 +6,10 @@ use Rattle.lounge.specs.Shows.{shows_of}
 use borrow.Author.Tests.{le-ltb, lt-ltb}
 use borrow.Author.Rules.{rules}
 use Rattle.lounge.proofs.shows_code.Goals as goal
+use Rattle.lounge.proofs.shows_code.Goals.{After-is_found}
 
 -- whether a user character sits on the code, by the lookup
-user : (c : goal.After-is_found) {t : Bool} → c.is_found.result ≡ t
+user : (c : After-is_found) {t : Bool} → c.is_found.result ≡ t
     → is_user (users_of c.args.c) c.args.code ≡ t
 unfolding is_user
 user c e = rw (← c.find.ensures) (sym c.is_found.ensures ∙ e)

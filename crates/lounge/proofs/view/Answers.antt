@@ -14,7 +14,7 @@ use Rattle.lounge.proofs.view.Goals as goal
 pub returns-then-not-well_formed : goal.returns-then-not-well_formed
 unfolding view_answer
 returns-then-not-well_formed c =
-    let no-formed : well_formed c.args.c ≡ false = sym c.well_formed-2.ensures ∙ not-true _ c.if-not-well_formed.true in
+    let no-formed : well_formed c.args.c ≡ false = sym c.well_formed-2.ensures ∙ c.if-not-well_formed.true in
     rw (c.unseen.ensures, no-formed)
 
 pub returns-then-i-ge-CELLS : goal.returns-then-i-ge-CELLS
@@ -25,7 +25,7 @@ returns-then-i-ge-CELLS c =
 pub returns : goal.returns
 unfolding view_answer seen_of
 returns c =
-    let is-formed : well_formed c.args.c ≡ true = sym c.well_formed-2.ensures ∙ not-false _ c.if-not-well_formed.false in
+    let is-formed : well_formed c.args.c ≡ true = sym c.well_formed-2.ensures ∙ c.if-not-well_formed.false in
     let in-range : c.args.position ≤ 39 = omega (arith, c.if-i-ge-CELLS.false) in
     rw (
       c.has_mark-2.ensures,

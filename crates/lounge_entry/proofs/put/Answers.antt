@@ -4,8 +4,9 @@ use mathlib.Core.Path.{sym, ◌∙◌}
 use Rattle.row.proofs.Laws.{filled}
 use borrow.Author.Rules.{rules}
 use Rattle.lounge_entry.proofs.put.Goals as goal
+use Rattle.lounge_entry.proofs.put.Goals.{Start}
 
-sized : (c : goal.Start) → Sized c.args.c
+sized : (c : Start) → Sized c.args.c
 sized c = record { codes-40 = search rules; marks-40 = search rules; users-48 = search rules; held-4 = search rules }
 
 pub slice_bounds-copy-end-4 : goal.slice_bounds-copy-end-4

@@ -12,39 +12,40 @@ use Rattle.planner.proofs.Putting.{put_same}
 use Rattle.planner.proofs.Refusals.{Accepted, accepted, plan-delivers, plan-given, refused, taken-on}
 use borrow.Author.Rules.{rules}
 use Rattle.planner.proofs.plan.Goals as goal
+use Rattle.planner.proofs.plan.Goals.{Else-n-ne0}
 
 -- Where no refusal is given -----------------------------------------------------------------------------------------------------
-abbrev Unrefused : goal.Else-n-ne0 → Type 0
+abbrev Unrefused : Else-n-ne0 → Type 0
 Unrefused c =
     let a = c.args in
     plan_refusal a.c a.wanted.now a.asked (length a.out.now) ≡ 0
 
-unrefused : (c : goal.Else-n-ne0) → Unrefused c
+unrefused : (c : Else-n-ne0) → Unrefused c
 unrefused c = sym c.of_plan-n.ensures ∙ c.if-n-ne0.false
 
-abbrev Accepts : goal.Else-n-ne0 → Type 0
+abbrev Accepts : Else-n-ne0 → Type 0
 Accepts c =
     let a = c.args in
     Accepted a.c a.wanted.now a.asked × (44 ≤ length a.out.now)
 
-accepts : (c : goal.Else-n-ne0) → Accepts c
+accepts : (c : Else-n-ne0) → Accepts c
 accepts c = accepted _ _ _ _ (unrefused c)
 
-abbrev Delivered : goal.Else-n-ne0 → Type 0
+abbrev Delivered : Else-n-ne0 → Type 0
 Delivered c =
     let a = c.args in
     Delivers (either_start false) a.c a.wanted.now a.asked (either_plan a.c a.wanted.now a.asked)
 
-delivered : (c : goal.Else-n-ne0) → Delivered c
+delivered : (c : Else-n-ne0) → Delivered c
 delivered c = plan-delivers _ _ _ _ (unrefused c) (search rules) (search rules)
 
 -- the bytes that are put are those of the plan in one font
-abbrev Same : goal.Else-n-ne0 → Type 0
+abbrev Same : Else-n-ne0 → Type 0
 Same c =
     let a = c.args in
     either_fonts_plan a.c a.wanted.now (replicate 40 a.c.font) a.asked ≡ either_plan a.c a.wanted.now a.asked
 
-same : (c : goal.Else-n-ne0) → Same c
+same : (c : Else-n-ne0) → Same c
 same c = either-one-font _ _ _
 
 pub returns-then-n-ne0 : goal.returns-then-n-ne0

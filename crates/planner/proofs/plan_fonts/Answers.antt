@@ -11,31 +11,32 @@ use Rattle.planner.proofs.Refusals.{FontsAccepted, fonts-accepted, fonts-plan-de
 use Rattle.planner.proofs.Refusals.{refused, taken-on}
 use borrow.Author.Rules.{rules}
 use Rattle.planner.proofs.plan_fonts.Goals as goal
+use Rattle.planner.proofs.plan_fonts.Goals.{Else-n-ne0}
 
 -- Where no refusal is given -----------------------------------------------------------------------------------------------------
-abbrev Unrefused : goal.Else-n-ne0 → Type 0
+abbrev Unrefused : Else-n-ne0 → Type 0
 Unrefused c =
     let a = c.args in
     fonts_refusal a.c a.wanted.now a.fonts.now a.asked (length a.out.now) ≡ 0
 
-unrefused : (c : goal.Else-n-ne0) → Unrefused c
+unrefused : (c : Else-n-ne0) → Unrefused c
 unrefused c = sym c.of_fonts-n.ensures ∙ c.if-n-ne0.false
 
-abbrev Accepts : goal.Else-n-ne0 → Type 0
+abbrev Accepts : Else-n-ne0 → Type 0
 Accepts c =
     let a = c.args in
     FontsAccepted a.c a.wanted.now a.fonts.now a.asked × (104 ≤ length a.out.now)
 
-accepts : (c : goal.Else-n-ne0) → Accepts c
+accepts : (c : Else-n-ne0) → Accepts c
 accepts c = fonts-accepted _ _ _ _ _ (unrefused c)
 
-abbrev Delivered : goal.Else-n-ne0 → Type 0
+abbrev Delivered : Else-n-ne0 → Type 0
 Delivered c =
     let a = c.args in
     FontsDelivers (either_start true) a.c a.wanted.now a.fonts.now a.asked
     (either_fonts_plan a.c a.wanted.now a.fonts.now a.asked)
 
-delivered : (c : goal.Else-n-ne0) → Delivered c
+delivered : (c : Else-n-ne0) → Delivered c
 delivered c = fonts-plan-delivers _ _ _ _ _ (unrefused c) (search rules) (search rules)
 
 pub returns-then-n-ne0 : goal.returns-then-n-ne0

@@ -3,12 +3,13 @@ use Rattle.condition.proofs.Good.{Sized}
 use Rattle.recovery.specs.Recovery.{get_back}
 use Rattle.recovery.proofs.Answers.{refuses, puts}
 use Rattle.recovery.proofs.recover.Goals as goal
+use Rattle.recovery.proofs.recover.Goals.{Start}
 
 -- the condition has its rows
-abbrev Rows : goal.Start → Type 0
+abbrev Rows : Start → Type 0
 Rows c = Sized c.args.c
 
-rows : (c : goal.Start) → Rows c
+rows : (c : Start) → Rows c
 rows c = record { codes-40 = search rules; fonts-40 = search rules; users-96 = search rules; held-4 = search rules }
 
 pub returns-then-n-ne0 : goal.returns-then-n-ne0

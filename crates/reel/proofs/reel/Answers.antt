@@ -5,12 +5,13 @@ use Rattle.reel.specs.declared.Stop.{Stop}
 use Rattle.condition.proofs.Good.{Sized}
 use Rattle.reel.proofs.Answers.{refused, put}
 use Rattle.reel.proofs.reel.Goals as goal
+use Rattle.reel.proofs.reel.Goals.{Else-stop-ne0}
 
 -- the start has its rows
-abbrev Rows : goal.Else-stop-ne0 → Type 0
+abbrev Rows : Else-stop-ne0 → Type 0
 Rows c = Sized c.args.c
 
-rows : (c : goal.Else-stop-ne0) → Rows c
+rows : (c : Else-stop-ne0) → Rows c
 rows c = record { codes-40 = search rules; fonts-40 = search rules; users-96 = search rules; held-4 = search rules }
 
 pub returns-then-stop-ne0 : goal.returns-then-stop-ne0

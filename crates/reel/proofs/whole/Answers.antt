@@ -9,10 +9,11 @@ use borrow.Author.Rules.{rules}
 use Rattle.reel.specs.Reel.{whole_refusal}
 use Rattle.reel.proofs.Turns.{short, enough, start-unformed}
 use Rattle.reel.proofs.whole.Goals as goal
+use Rattle.reel.proofs.whole.Goals.{Else-not-well_formed}
 
 pub returns-then-not-matched : goal.returns-then-not-matched
 unfolding whole_refusal
-returns-then-not-matched c = let f = c.matched in rw (← f.ensures, not-true f.result c.if-not-matched.taken)
+returns-then-not-matched c = let f = c.matched in rw (← f.ensures, c.if-not-matched.true)
 
 -- more than 64
 pub returns-then-n-gt-MOST : goal.returns-then-n-gt-MOST
@@ -20,16 +21,16 @@ unfolding whole_refusal
 returns-then-n-gt-MOST c =
     let f = c.matched in
     let a = c.args in
-    rw (← f.ensures, not-false f.result c.if-not-matched.left, lt-leb (length a.cursors.now) 64 (omega (arith, c.if-n-gt-MOST.taken)))
+    rw (← f.ensures, c.if-not-matched.false, lt-leb (length a.cursors.now) 64 (omega (arith, c.if-n-gt-MOST.true)))
 
 pub returns-then-not-well_formed : goal.returns-then-not-well_formed
 returns-then-not-well_formed c =
     let f = c.matched in
     let w = c.well_formed-2 in
-    sym (start-unformed _ _ _ _ (sym f.ensures ∙ not-false _ c.if-not-matched.left) (sym w.ensures ∙ not-true _ c.if-not-well_formed.taken))
+    sym (start-unformed _ _ _ _ (sym f.ensures ∙ c.if-not-matched.false) (sym w.ensures ∙ c.if-not-well_formed.true))
 
 -- where neither 1 nor 3 holds, the room decides
-room-decides : (e : goal.Else-not-well_formed) → (let a = e.args in
+room-decides : (e : Else-not-well_formed) → (let a = e.args in
     whole_refusal a.c a.codes.now a.cursors.now a.room ≡ cond (ltb a.room (44 * length a.cursors.now)) 10 0)
 unfolding whole_refusal
 room-decides e =
@@ -38,14 +39,14 @@ room-decides e =
     let a = e.args in
     rw (
       ← f.ensures,
-      not-false f.result e.if-not-matched.left,
-      le-leb (length a.cursors.now) 64 (omega (arith, e.if-n-gt-MOST.left)),
+      e.if-not-matched.false,
+      le-leb (length a.cursors.now) 64 (omega (arith, e.if-n-gt-MOST.false)),
       ← w.ensures,
-      not-false w.result e.if-not-well_formed.left,
+      e.if-not-well_formed.false,
     )
 
 pub returns-then-room-n : goal.returns-then-room-n
-returns-then-room-n c = sym (room-decides (goal.at.returns-then-room-n c).Else-not-well_formed ∙ rw (short _ _ c.if-room-n.taken))
+returns-then-room-n c = sym (room-decides (goal.at.returns-then-room-n c).Else-not-well_formed ∙ rw (short _ _ c.if-room-n.true))
 
 pub returns : goal.returns
-returns c = sym (room-decides (goal.at.returns c).Else-not-well_formed ∙ rw (enough _ _ c.if-room-n.left))
+returns c = sym (room-decides (goal.at.returns c).Else-not-well_formed ∙ rw (enough _ _ c.if-room-n.false))

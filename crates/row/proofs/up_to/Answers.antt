@@ -12,6 +12,7 @@ use borrow.Author.Tests.{le-leb}
 use Rattle.laws.proofs.Tests.{most-of}
 use Rattle.row.specs.Row.{all_up_to}
 use Rattle.row.proofs.up_to.Goals as goal
+use Rattle.row.proofs.up_to.Goals.{then-most-s, else-most-s}
 
 -- a turn: m is the most so far, k with one byte more
 turned : (n : ℕ) (s : List ℕ) (i m k : ℕ) → i < length s → m ≤ k → get_or s i 0 ≤ k → (k ≡ m) ⊎ (k ≡ get_or s i 0)
@@ -31,8 +32,10 @@ loop-i-preserved c =
     let a = c.args in
     let l = c.loop-i in
     let more = turned a.n a.s.now l.i l.most c.if-most-s.most (omega arith) in
-    ⊎_elim (λ w. (l.invariant.0 ∙ more (omega arith) (omega arith) (inr (omega arith)), omega arith))
-    (λ w. (l.invariant.0 ∙ more (omega arith) (omega arith) (inl (omega arith)), omega arith)) c.if-most-s.branch
+    elim c.if-most-s.branch [
+      then-most-s w ↦ (l.invariant.0 ∙ more (omega arith) (omega arith) (inr (omega arith)), omega arith)
+    | else-most-s w ↦ (l.invariant.0 ∙ more (omega arith) (omega arith) (inl (omega arith)), omega arith)
+    ]
 
 pub returns : goal.returns
 returns c =

@@ -6,8 +6,9 @@ use Rattle.show.specs.Report.{report_of}
 use Rattle.show.proofs.Laws.{shown-length}
 use borrow.Author.Rules.{rules}
 use Rattle.show.proofs.add_shown.Goals as goal
+use Rattle.show.proofs.add_shown.Goals.{Start}
 
-codes-40 : (c : goal.Start) → length c.args.r.condition.codes ≡ 40
+codes-40 : (c : Start) → length c.args.r.condition.codes ≡ 40
 codes-40 c = search rules
 
 pub returns : goal.returns

@@ -8,8 +8,9 @@ use Rattle.show_lounge.proofs.Laws.{report-length}
 use borrow.Author.Tests.{eq-eqb, ne_eqb}
 use borrow.Author.Rules.{rules}
 use Rattle.show_lounge.proofs.add_shown.Goals as goal
+use Rattle.show_lounge.proofs.add_shown.Goals.{Start}
 
-sized : (c : goal.Start) → Sized c.args.r.condition
+sized : (c : Start) → Sized c.args.r.condition
 sized c = record { codes-40 = search rules; marks-40 = search rules; users-48 = search rules; held-4 = search rules }
 
 pub returns-then-r-ne0 : goal.returns-then-r-ne0
@@ -27,7 +28,7 @@ slice_bounds-add_users-end c =
 pub add_users-requires : goal.add_users-requires
 add_users-requires c =
     let s = sized (goal.at.add_users-requires c).Start in
-    let w = c.pre.1 c.if-r-ne0.left in
+    let w = c.pre.1 c.if-r-ne0.false in
     omega (arith, s.users-48, few-users c.args.r.condition (fit c.args.r.condition s w))
 
 pub returns : goal.returns

@@ -6,12 +6,13 @@ use Rattle.sign.specs.Calls.{reel_number}
 use Rattle.sign.proofs.Reels.{reel-short, reel-done}
 use borrow.Author.Rules.{rules}
 use Rattle.sign.proofs.sign_reel.Goals as goal
+use Rattle.sign.proofs.sign_reel.Goals.{After-counts-2-1}
 
 -- the reel's answer has 64 lengths
-abbrev Long : goal.After-counts-2-1 → Type 0
+abbrev Long : After-counts-2-1 → Type 0
 Long c = length c.reeled-r.result.lengths ≡ 64
 
-long : (c : goal.After-counts-2-1) → Long c
+long : (c : After-counts-2-1) → Long c
 long c = search rules
 
 pub returns-then-lengths-ne-MOST : goal.returns-then-lengths-ne-MOST

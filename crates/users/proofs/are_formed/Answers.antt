@@ -41,7 +41,7 @@ returns-then-not-is_absent c =
     let l = c.loop-left in
     let s = a.bytes.now in
     let gone : absent (get_or s l.at 0) (l.left - 1) (drop (l.at + 6) s) ≡ false =
-    ap (absent _ _) (sym (tail-part s (l.at + 6))) ∙ sym c.is_absent.ensures ∙ not-true _ c.if-not-is_absent.true in
+    ap (absent _ _) (sym (tail-part s (l.at + 6))) ∙ sym c.is_absent.ensures ∙ c.if-not-is_absent.true in
     let fifth = ltb (get_or s (l.at + 5) 0) a.bound in
     sym (l.invariant.0 ∙ places-step a.bound l.left s l.at (omega arith) ∙ rw gone (and-false fifth))
 
@@ -51,7 +51,7 @@ loop-left-preserved c =
     let l = c.loop-left in
     let s = a.bytes.now in
     let there : absent (get_or s l.at 0) (l.left - 1) (drop (l.at + 6) s) ≡ true =
-    ap (absent _ _) (sym (tail-part s (l.at + 6))) ∙ sym c.is_absent.ensures ∙ not-false _ c.if-not-is_absent.false in
+    ap (absent _ _) (sym (tail-part s (l.at + 6))) ∙ sym c.is_absent.ensures ∙ c.if-not-is_absent.false in
     let low = lt-ltb _ a.bound c.if-bound-d.false in
     (l.invariant.0 ∙ places-step a.bound l.left s l.at (omega arith) ∙ rw (there, low), omega arith, omega arith)
 

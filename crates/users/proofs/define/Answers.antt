@@ -8,13 +8,14 @@ use Rattle.users.proofs.Laws.{Fits, leaving-fits, defines}
 use borrow.Author.Tests.{lt-ltb}
 use borrow.Author.Rules.{rules}
 use Rattle.users.proofs.define.Goals as goal
+use Rattle.users.proofs.define.Goals.{After-leaving}
 
 pub returns-then-bytes-lt-PLACE : goal.returns-then-bytes-lt-PLACE
 unfolding define_in
 returns-then-bytes-lt-PLACE c = rw (lt-ltb _ _ c.if-bytes-lt-PLACE.true)
 
 -- the place that goes is in use; where none goes, there is room for one more
-fits : (l : goal.After-leaving) (f : Found) → l.leaving.result ≡ f
+fits : (l : After-leaving) (f : Found) → l.leaving.result ≡ f
     → Fits l.args.bytes.now l.limit-n.result f
 unfolding room_of
 fits l f e = leaving-fits _ _ _ _ f (omega arith) l.limit-n.ensures.0 (sym e ∙ l.leaving.ensures)

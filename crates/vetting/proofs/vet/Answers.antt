@@ -8,20 +8,21 @@ use Rattle.planner.proofs.Refusals.{accepted, counted}
 use Rattle.vetting.specs.Vetting.{vet_refusal}
 use Rattle.vetting.proofs.Answers.{vet-accepted, vet-refused, vet-judged}
 use Rattle.vetting.proofs.vet.Goals as goal
+use Rattle.vetting.proofs.vet.Goals.{After-refusal-n, Start}
 
-abbrev Rows : goal.Start → Type 0
+abbrev Rows : Start → Type 0
 Rows c = Sized c.args.c
 
-rows : (c : goal.Start) → Rows c
+rows : (c : Start) → Rows c
 rows c = record { codes-40 = search rules; fonts-40 = search rules; users-96 = search rules; held-4 = search rules }
 
 -- the refusal number is that of the promise
-abbrev Numbered : goal.After-refusal-n → Type 0
+abbrev Numbered : After-refusal-n → Type 0
 Numbered c =
     let a = c.args in
     c.refusal-n.result ≡ vet_refusal a.c a.wanted.now a.asked a.string.now
 
-numbered : (c : goal.After-refusal-n) → Numbered c
+numbered : (c : After-refusal-n) → Numbered c
 unfolding vet_refusal
 numbered c = c.refusal-n.ensures ∙ rw (ap (λ (p : Planned). p.refusal) c.count-plan.ensures)
 

@@ -5,8 +5,9 @@ use Rattle.condition.specs.Condition.{index_good, well_formed}
 use Rattle.condition.proofs.Rows.{rows-law}
 use borrow.Author.Rules.{rules}
 use Rattle.condition.proofs.Condition.well_formed.Goals as goal
+use Rattle.condition.proofs.Condition.well_formed.Goals.{Start}
 
-sized : (c : goal.Start)
+sized : (c : Start)
     → (length c.args.self.fonts ≡ 40) × (length c.args.self.users.bytes ≡ 96) × (length c.args.self.held ≡ 4)
 sized c = (search rules, search rules, search rules)
 

@@ -8,9 +8,10 @@ use Rattle.lounge.specs.Marks.{is_pair}
 use Rattle.lounge.proofs.Branches.{area-law}
 use borrow.Author.Rules.{rules}
 use Rattle.lounge.proofs.marking.mark.Goals as goal
+use Rattle.lounge.proofs.marking.mark.Goals.{Then-is_pair}
 
 -- a pair that is not dropped is in order, and of places
-in-order : (c : goal.Then-is_pair) → (c.args.first ≤ c.args.second)
+in-order : (c : Then-is_pair) → (c.args.first ≤ c.args.second)
     × (c.args.second < 40)
 unfolding is_pair
 in-order c =

@@ -7,21 +7,22 @@ use borrow.Author.Rules.{rules}
 use Rattle.planner.specs.Fonts.{switch}
 use Rattle.planner.proofs.Costs.{switch-same, switch-katakana, switch-international, back_some}
 use Rattle.planner.proofs.bytes.put_switch.Goals as goal
+use Rattle.planner.proofs.bytes.put_switch.Goals.{Else-euro, Then-euro, Then-from-to, Then-to-eq1}
 
 -- the bytes on each way out
-same : (c : goal.Then-from-to) → switch c.args.euro c.args.from c.args.to ≡ []
+same : (c : Then-from-to) → switch c.args.euro c.args.from c.args.to ≡ []
 same c = switch-same _ _ _ c.if-from-to.true
 
-katakana : (c : goal.Then-to-eq1)
+katakana : (c : Then-to-eq1)
     → switch c.args.euro c.args.from c.args.to ≡ 0x19 ∷ []
 katakana c = switch-katakana _ _ _ c.if-from-to.false c.if-to-eq1.true
 
-marked : (c : goal.Then-euro)
+marked : (c : Then-euro)
     → switch c.args.euro c.args.from c.args.to
     ≡ 0x18 ∷ 0x1a ∷ []
 marked c = switch-international _ _ _ c.if-from-to.false c.if-to-eq1.false ∙ rw c.if-euro.true
 
-unmarked : (c : goal.Else-euro)
+unmarked : (c : Else-euro)
     → switch c.args.euro c.args.from c.args.to
     ≡ 0x18 ∷ []
 unmarked c = switch-international _ _ _ c.if-from-to.false c.if-to-eq1.false ∙ rw c.if-euro.false

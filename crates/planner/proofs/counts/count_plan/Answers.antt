@@ -9,6 +9,7 @@ use Rattle.planner.proofs.Counting.{Counting, count-start, count-skip, count-sum
 use Rattle.planner.proofs.Counting.{end_fits}
 use Rattle.planner.proofs.Started.{count_by, clear-most}
 use Rattle.planner.proofs.counts.count_plan.Goals as goal
+use Rattle.planner.proofs.counts.count_plan.Goals.{After-switch_length-more}
 
 -- What is counted is the plan -----------------------------------------------------------------------------------------------------
 pub loop-j-init : goal.loop-j-init
@@ -34,12 +35,12 @@ returns c =
     (count-end _ _ _ _ _ _ _ _ v (search rules)))
 
 -- a byte holds what is counted
-abbrev Sum : goal.After-switch_length-more → ℕ
+abbrev Sum : After-switch_length-more → ℕ
 Sum c =
     let before = c.loop-j.n in
     before + c.number-way.result + c.switch_length-more.result + 1
 
-fits : (c : goal.After-switch_length-more) → Sum c < 256
+fits : (c : After-switch_length-more) → Sum c < 256
 unfolding wrong_in
 fits c =
     let v = c.loop-j.invariant in

@@ -5,25 +5,26 @@ use native.Mathlib.Omega.{arith}
 use Rattle.vetting.proofs.Through.{Judging, judge-start, write-turn, write-stop, move-turn, move-stop, judge-end, wanted-40}
 use borrow.Author.Rules.{rules}
 use Rattle.vetting.proofs.judging.judge.Goals as goal
+use Rattle.vetting.proofs.judging.judge.Goals.{After-shared_slice_known-in-loop-i-1, In-loop-i, Start}
 
 started-requires : tie.Need-started-requires invariant-loop decreases-loop
 started-requires c κs = search rules
 
 -- the parts of the condition
-abbrev Rows : goal.Start → Type 0
+abbrev Rows : Start → Type 0
 Rows c = (length c.args.c.codes ≡ 40) × (length c.args.c.fonts ≡ 40)
 
-rows : (c : goal.Start) → Rows c
+rows : (c : Start) → Rows c
 rows c = (search rules, search rules)
 
 -- the function's start, from a turn of the loop, and the byte that was read there
-abbrev start : goal.In-loop-i → tie.Start invariant-loop decreases-loop
+abbrev start : In-loop-i → tie.Start invariant-loop decreases-loop
 start c = (goal.at.start c).Start
 
-abbrev Small : goal.After-shared_slice_known-in-loop-i-1 → Type 0
+abbrev Small : After-shared_slice_known-in-loop-i-1 → Type 0
 Small c = get_or (start (goal.at.Small c).In-loop-i).args.string.now c.loop-i.i 0 < 256
 
-small : (c : goal.After-shared_slice_known-in-loop-i-1) → Small c
+small : (c : After-shared_slice_known-in-loop-i-1) → Small c
 small c = omega (arith, c.shared_slice_known-in-loop-i-1.given c.loop-i.i)
 
 pub loop-i-init : goal.loop-i-init
