@@ -5,7 +5,7 @@ use mathlib.Core.List.{List, [], ◌∷◌}
 use Prim.Native.Nat.{ℕ}
 use lib.Dec.{eqb}
 use borrow.Author.Tests.{eqb-true, eq-eqb}
-use Rattle.laws.proofs.Tests.{by_cases, clash}
+use Rattle.laws.proofs.Tests.{by_cases, by-test, clash}
 use Rattle.moves.specs.Moves.{any, find}
 
 -- a member that passes the test
@@ -25,8 +25,8 @@ find_at f (x ∷ xs) d h =
 pub find-in : (f : ℕ → Bool) (xs : List ℕ) (d : ℕ) → any f xs ≡ true → any (eqb (find f xs d)) xs ≡ true
 find-in f [] d h = h
 find-in f (x ∷ xs) d h =
-    by_cases (f x) (λ e. rw e (ap (λ (t : Bool). t || any (eqb x) xs) (eq-eqb x x refl)))
-    (λ e. rw e (ap (λ (t : Bool). eqb (find f xs d) x || t) (find-in f xs d (rw e at h)) ∙ or-true (eqb (find f xs d) x)))
+    by-test (λ (y : ℕ). any (eqb y) (x ∷ xs) ≡ true) (f x) (λ _. ap (λ (t : Bool). t || any (eqb x) xs) (eq-eqb x x refl))
+    (λ e. ap (λ (t : Bool). eqb (find f xs d) x || t) (find-in f xs d (rw e at h)) ∙ or-true (eqb (find f xs d) x))
 
 pub find_none : (f : ℕ → Bool) (xs : List ℕ) (d : ℕ) → any f xs ≡ false → find f xs d ≡ d
 find_none f [] d h = refl
