@@ -1,5 +1,4 @@
 use mathlib.Core.Path.{sym, ◌∙◌}
-use mathlib.Core.Logic.{⊎_elim}
 use Prim.Native.Nat.{◌-◌}
 use borrow.Author.Rules.{rules}
 use Rattle.planner.proofs.Canvas.{wrong_in}
@@ -7,6 +6,7 @@ use Rattle.planner.proofs.Counting.{Planning, plan-start, plan-skip, plan-write,
 use Rattle.planner.proofs.Counting.{way-room, code-room, end-room, end-long}
 use Rattle.planner.proofs.Started.{clearing-long, clear_room, room_by, put-by}
 use Rattle.planner.proofs.bytes.put_plan.Goals as goal
+use Rattle.planner.proofs.bytes.put_plan.Goals.{then-differs, else-differs}
 
 -- What is put is the plan ---------------------------------------------------------------------------------------------------------
 pub loop-i-init : goal.loop-i-init
@@ -20,11 +20,13 @@ unfolding wrong_in
 loop-i-preserved c =
     let v = c.loop-i.invariant in
     let d = c.differs.ensures in
-    ⊎_elim
-    (λ w. plan-write _ _ _ _ _ _ _ _ v _ _ _ _ _ _ (search rules) (sym d ∙ w.0.taken) w.2.ensures
-    (w.13 ∙ w.6.ensures.0, w.10 ∙ w.6.ensures.1) (w.11 ∙ w.9.ensures) w.12)
-    (λ w. plan-skip _ _ _ _ _ _ _ _ v _ _ _ _ (search rules) (sym d ∙ w.0.left) w.1 w.2 w.3 w.4)
-    c.if-differs.branch
+    elim c.if-differs.branch [
+      then-differs w ↦
+        plan-write _ _ _ _ _ _ _ _ v _ _ _ _ _ _ (search rules) (sym d ∙ w.if-differs.true) w.put_way-at.ensures
+        (w.k-is ∙ w.put_code-k.ensures.0, w.out-is ∙ w.put_code-k.ensures.1) (w.p-is ∙ w.next-p.ensures) w.selected-is
+    | else-differs w ↦
+        plan-skip _ _ _ _ _ _ _ _ v _ _ _ _ (search rules) (sym d ∙ w.if-differs.false) w.out-is w.p-is w.selected-is w.k-is
+    ]
 
 pub returns : goal.returns
 returns c =

@@ -1,5 +1,4 @@
 use mathlib.Core.Path.{sym, ◌∙◌}
-use mathlib.Core.Logic.{⊎_elim}
 use Prim.Native.Nat.{ℕ, ◌+◌, ◌-◌, ◌<◌}
 use native.Mathlib.Omega.{arith}
 use borrow.Author.Rules.{rules}
@@ -9,7 +8,7 @@ use Rattle.planner.proofs.Counting.{Counting, count-start, count-skip, count-sum
 use Rattle.planner.proofs.Counting.{end_fits}
 use Rattle.planner.proofs.Started.{count_by, clear-most}
 use Rattle.planner.proofs.counts.count_plan.Goals as goal
-use Rattle.planner.proofs.counts.count_plan.Goals.{After-switch_length-more}
+use Rattle.planner.proofs.counts.count_plan.Goals.{After-switch_length-more, then-differs, else-differs}
 
 -- What is counted is the plan -----------------------------------------------------------------------------------------------------
 pub loop-j-init : goal.loop-j-init
@@ -20,12 +19,14 @@ unfolding wrong_in
 loop-j-preserved c =
     let v = c.loop-j.invariant in
     let d = c.differs.ensures in
-    ⊎_elim
-    (λ w.
-    let sum = count-sum _ _ _ _ _ _ _ _ v _ _ w.1.ensures w.2.ensures (search rules) in
-    count-write _ _ _ _ _ _ _ _ v _ _ _ (search rules) (sym d ∙ w.0.taken) (w.6 ∙ sum) (w.4 ∙ w.3.ensures) w.5)
-    (λ w. count-skip _ _ _ _ _ _ _ _ v _ _ _ (search rules) (sym d ∙ w.0.left) w.1 w.2 w.3)
-    c.if-differs.branch
+    elim c.if-differs.branch [
+      then-differs w ↦
+        let sum = count-sum _ _ _ _ _ _ _ _ v _ _ w.number-way.ensures w.switch_length-more.ensures (search rules) in
+        count-write _ _ _ _ _ _ _ _ v _ _ _ (search rules) (sym d ∙ w.if-differs.true) (w.n-is ∙ sum)
+        (w.p-is ∙ w.next-p.ensures) w.selected-is
+    | else-differs w ↦
+        count-skip _ _ _ _ _ _ _ _ v _ _ _ (search rules) (sym d ∙ w.if-differs.false) w.p-is w.selected-is w.n-is
+    ]
 
 pub returns : goal.returns
 returns c =
