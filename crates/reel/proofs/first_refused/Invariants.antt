@@ -1,10 +1,8 @@
-use mathlib.Core.Path.{◌≡◌, sym, ◌∙◌}
+use mathlib.Core.Path.{◌≡◌}
 use Prim.Native.Nat.{◌-◌, ◌≤◌}
-use native.Mathlib.Omega.{arith}
 use lib.ListN.{length, drop}
-use borrow.Author.Rules.{rules}
 use Rattle.reel.specs.Reel.{pictures_of, first_refused}
-use Rattle.reel.proofs.Turns.{first_from, from_start, goes-on, stops, none-stops}
+use Rattle.reel.proofs.Turns.{first_from}
 use Rattle.reel.proofs.first_refused.Given as goal
 
 abbrev pub invariant-loop-k : goal.invariant-loop-k

@@ -1,10 +1,7 @@
 use Prim.Native.Nat.{◌≤◌, ◌-◌, min}
-use mathlib.Core.Path.{◌≡◌, refl, ◌∙◌}
-use native.Mathlib.Omega.{arith}
+use mathlib.Core.Path.{◌≡◌}
 use mathlib.Core.List.{◌++◌}
 use lib.ListN.{length, take, drop}
-use Rattle.row.proofs.Laws.{copy-turn, laid-law}
-use borrow.Author.Rules.{rules}
 use Rattle.row.proofs.copy.Given as goal
 
 abbrev pub invariant-loop-i : goal.invariant-loop-i

@@ -1,10 +1,7 @@
 use Prim.Native.Nat.{◌≤◌, ◌-◌}
-use mathlib.Core.Path.{◌≡◌, refl, sym}
-use mathlib.Core.List.{◌++◌, append-nil}
-use native.Mathlib.Omega.{arith}
-use borrow.Author.Rules.{rules}
+use mathlib.Core.Path.{◌≡◌}
+use mathlib.Core.List.{◌++◌}
 use lib.ListN.{length, take, replicate}
-use Rattle.row.proofs.Laws.{fill-turn, fill_done}
 use Rattle.row.proofs.fill.Given as goal
 
 abbrev pub invariant-loop-i : goal.invariant-loop-i

@@ -1,10 +1,7 @@
 use Prim.Native.Nat.{◌+◌, ◌≤◌, ◌-◌}
-use mathlib.Core.Path.{◌≡◌, refl}
-use native.Mathlib.Omega.{arith}
-use borrow.Author.Rules.{rules}
+use mathlib.Core.Path.{◌≡◌}
 use lib.ListN.{length, drop}
-use lib.Seq.{paste, paste-zero}
-use Rattle.row.proofs.Laws.{pull-turn}
+use lib.Seq.{paste}
 use Rattle.row.proofs.pull.Given as goal
 
 abbrev pub invariant-loop-i : goal.invariant-loop-i

@@ -1,10 +1,7 @@
 use Prim.Native.Nat.{◌+◌, ◌-◌, ◌*◌, ◌≤◌}
-use mathlib.Core.Path.{◌≡◌, refl, ◌∙◌}
-use native.Mathlib.Omega.{arith}
+use mathlib.Core.Path.{◌≡◌}
 use lib.ListN.{length}
 use Rattle.users.specs.Users.{removed}
-use Rattle.users.proofs.Removal.{remove-turn, remove-law}
-use borrow.Author.Rules.{rules}
 use Rattle.users.proofs.remove.Given as goal
 
 abbrev pub invariant-loop-i : goal.invariant-loop-i

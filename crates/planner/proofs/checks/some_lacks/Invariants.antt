@@ -1,11 +1,8 @@
-use mathlib.Core.Path.{◌≡◌, refl, sym, ◌∙◌}
+use mathlib.Core.Path.{◌≡◌}
 use Prim.Native.Nat.{◌≤◌, ◌-◌}
-use native.Mathlib.Omega.{arith}
 use lib.ListN.{length, drop}
 use Rattle.users.specs.Users.{users_in}
 use Rattle.planner.specs.Answer.{some_lacks}
-use Rattle.planner.proofs.Wanted.{lacks-turn, lacks-stop, lacks-end}
-use borrow.Author.Rules.{rules}
 use Rattle.planner.proofs.checks.some_lacks.Given as goal
 
 abbrev pub invariant-loop-i : goal.invariant-loop-i

@@ -1,5 +1,4 @@
 use mathlib.Core.Path.{sym, ◌∙◌}
-use borrow.Author.Rules.{rules}
 use Rattle.planner.proofs.Clear.{counts-plain, counts-cleared, counts-shorter}
 use Rattle.planner.proofs.counts.count_either.Goals as goal
 
