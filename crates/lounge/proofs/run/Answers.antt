@@ -3,7 +3,6 @@ use mathlib.Core.Bool.{Bool, true, ◌&&◌, and-false}
 use mathlib.Core.List.{List}
 use Prim.Native.Nat.{ℕ}
 use native.Mathlib.Omega.{arith}
-use borrow.Author.Tests.{not-true, not-false}
 use Rattle.lounge.specs.Condition.{well_formed}
 use Rattle.lounge.specs.Run.{kinds_formed}
 use Rattle.lounge.specs.Head.{lounge_in}

@@ -4,7 +4,6 @@ use Rattle.users.specs.Users.{is_user}
 use Rattle.lounge.specs.Condition.{users_of}
 use Rattle.lounge.specs.Shows.{shows_of}
 use borrow.Author.Tests.{le-ltb, lt-ltb}
-use borrow.Author.Rules.{rules}
 use Rattle.lounge.proofs.shows_code.Goals as goal
 use Rattle.lounge.proofs.shows_code.Goals.{After-is_found}
 

@@ -1,11 +1,8 @@
-use mathlib.Core.Path.{◌≡◌, refl}
+use mathlib.Core.Path.{◌≡◌}
 use mathlib.Core.List.{map, ◌++◌}
 use Prim.Native.Nat.{◌-◌, ◌≤◌}
-use native.Mathlib.Omega.{arith}
-use borrow.Author.Rules.{rules}
 use lib.ListN.{length, take, drop}
 use Rattle.lounge.specs.Marks.{marked}
-use Rattle.laws.proofs.Lists.{map-turn, map-done}
 use Rattle.lounge.proofs.marking.mark_all.Given as goal
 
 abbrev pub invariant-loop-i : goal.invariant-loop-i

@@ -33,14 +33,13 @@ returns-then-h-ne0 c =
     c.continued.ensures refl
 
 pub write-requires : goal.write-requires
-write-requires c =
-    (
-      search rules,
-      search rules,
-      search rules,
-      rw (get_or-set_other c.args.h.now 4 0 c.args.b 0 (λ e. omega arith))
-          c.requires.4,
-    )
+write-requires c = (
+  search rules,
+  search rules,
+  search rules,
+  rw (get_or-set_other c.args.h.now 4 0 c.args.b 0 (λ e. omega arith))
+      c.requires.4,
+)
 
 pub shape_of-h-then-is_char : goal.shape_of-h-then-is_char
 shape_of-h-then-is_char c =
@@ -55,14 +54,13 @@ returns-then-is_char c =
     (sym c.is_char.ensures ∙ c.if-is_char.true) c.write.ensures refl
 
 pub control-requires : goal.control-requires
-control-requires c =
-    (
-      search rules,
-      search rules,
-      search rules,
-      rw (get_or-set_other c.args.h.now 4 0 c.args.b 0 (λ e. omega arith))
-          c.requires.4,
-    )
+control-requires c = (
+  search rules,
+  search rules,
+  search rules,
+  rw (get_or-set_other c.args.h.now 4 0 c.args.b 0 (λ e. omega arith))
+      c.requires.4,
+)
 
 pub shape_of-h : goal.shape_of-h
 shape_of-h c =
