@@ -19,7 +19,8 @@ returns-then-is_found c = rw (user (goal.at.returns-then-is_found c).After-is_fo
 
 pub returns-then-code-lt32 : goal.returns-then-code-lt32
 unfolding shows_of
-returns-then-code-lt32 c = rw (user (goal.at.returns-then-code-lt32 c).After-is_found c.if-is_found.false, lt-ltb _ _ c.if-code-lt32.true)
+returns-then-code-lt32 c =
+    rw (user (goal.at.returns-then-code-lt32 c).After-is_found c.if-is_found.false, lt-ltb _ _ c.if-code-lt32.true)
 
 pub returns : goal.returns
 unfolding shows_of
