@@ -23,8 +23,8 @@ fonts_sheet =
     record {
       bytes = [];
       holds = λ c busy.
-          PlannedFonts c (set (set blank 0 0x41) 20 0x_b1) (set (replicate 40 0) 20 1) 0
-          (0x41 ∷ 0x08 ∷ 0x0a ∷ 0x19 ∷ 0x_b1 ∷ 0x0c ∷ []);
+          PlannedFonts c (set (set blank 0 0x41) 20 0xb1) (set (replicate 40 0) 20 1) 0
+          (0x41 ∷ 0x08 ∷ 0x0a ∷ 0x19 ∷ 0xb1 ∷ 0x0c ∷ []);
     }
     -- Euro on, fonts in turn: 19 41 18 1A 42 19 43 18 1A 44
     ∷ record {

@@ -87,7 +87,7 @@ sheet =
     -- 8. 1B 48 14 08: cursor 20
     ∷ record { bytes = 0x1b ∷ 0x48 ∷ 0x14 ∷ 0x08 ∷ []; holds = λ c busy. c.cursor ≡ 20 }
     -- 9. 1A AD shows Euro; then 18, blank
-    ∷ record { bytes = 0x1a ∷ 0x_ad ∷ []; holds = λ c busy. (shows_of c 0 ≡ Euro) × (shows_of (run_of c (0x18 ∷ [])) 0 ≡ Blank) }
+    ∷ record { bytes = 0x1a ∷ 0xad ∷ []; holds = λ c busy. (shows_of c 0 ≡ Euro) × (shows_of (run_of c (0x18 ∷ [])) 0 ≡ Blank) }
     -- 10. 1B 43 09 00 00 00 00 00 09: cell 0 is 09h, cursor 1; plans refused 8
     ∷ record {
       bytes = 0x1b ∷ 0x43 ∷ 0x09 ∷ 0x00 ∷ 0x00 ∷ 0x00 ∷ 0x00 ∷ 0x00 ∷ 0x09 ∷ [];

@@ -49,7 +49,7 @@ fn shows_code(c: Condition, code: u8, font: u8) -> Shows
     if code < 0x20 {
         return Shows::Blank;
     }
-    if (code == 0x_ad) & (font == 0) {
+    if (code == 0xad) & (font == 0) {
         return euro_or(c.euro);
     }
     Shows::BuiltIn(code, font)
