@@ -1,5 +1,6 @@
 -- The bench sheet (document 01; the last case 02, W3): fifteen cases, each from power-up font 0.
-use Rattle.std.specs.Prelude.{ℕ, zero, suc, ◌≤◌, ◌≡◌, List, [], ◌∷◌, ◌++◌, true, false, cond, length, get_or, set, drop, replicate, eqb}
+use Rattle.std.specs.Prelude.{ℕ, zero, suc, ◌≤◌, ◌≡◌, List, [], ◌∷◌, ◌++◌, true, false, cond, length, get_or, set, drop, replicate}
+use Rattle.std.specs.Prelude.{eqb}
 use Rattle.users.specs.Users.{is_user, place_at}
 use Rattle.condition.specs.declared.Condition.{Condition}
 use Rattle.glass.specs.declared.Shows.TheVariants.{Blank, Euro}
@@ -82,7 +83,8 @@ sheet =
     ∷ record {
       bytes = 0x1b ∷ 0x43 ∷ 0x21 ∷ 0x84 ∷ 0x10 ∷ 0x02 ∷ 0x00 ∷ 0x01 ∷ [];
       holds = λ c busy.
-          (dots_up_to c 0x21 35 ≡ 3 ∷ 8 ∷ 13 ∷ 18 ∷ 33 ∷ []) × (lit_answer c 0x21 ≡ record { refusal = 0; value = 5 }) × (busy ≡ 55);
+          (dots_up_to c 0x21 35 ≡ 3 ∷ 8 ∷ 13 ∷ 18 ∷ 33 ∷ []) × (lit_answer c 0x21 ≡ record { refusal = 0; value = 5 })
+              × (busy ≡ 55);
     }
     -- 8. 1B 48 14 08: cursor 20
     ∷ record { bytes = 0x1b ∷ 0x48 ∷ 0x14 ∷ 0x08 ∷ []; holds = λ c busy. c.cursor ≡ 20 }

@@ -6,7 +6,8 @@ use Rattle.row.proofs.copy.Given as goal
 
 abbrev pub invariant-loop-i : goal.invariant-loop-i
 invariant-loop-i l =
-    (l.i ≤ l.n) × (l.to ≡ take l.i l.from ++ drop l.i l.initial.to) × (length l.to ≡ length l.initial.to) × (l.n ≡ min (length l.initial.to) (length l.from))
+    (l.i ≤ l.n) × (l.to ≡ take l.i l.from ++ drop l.i l.initial.to) × (length l.to ≡ length l.initial.to)
+    × (l.n ≡ min (length l.initial.to) (length l.from))
 
 abbrev pub decreases-loop-i : goal.decreases-loop-i
 decreases-loop-i l = l.n - l.i

@@ -29,28 +29,33 @@ small c = omega (arith, c.shared_slice_known-in-loop-i-1.given c.loop-i.i)
 
 pub loop-i-init : goal.loop-i-init
 loop-i-init c =
-    judge-start _ _ _ c.requires.0 _ _ _ (rows (goal.at.loop-i-init c).Start).0 (rows (goal.at.loop-i-init c).Start).1 c.clears_first-clear.ensures c.started.ensures
+    judge-start _ _ _ c.requires.0 _ _ _ (rows (goal.at.loop-i-init c).Start).0
+        (rows (goal.at.loop-i-init c).Start).1 c.clears_first-clear.ensures c.started.ensures
 
 pub returns-then-p-low : goal.returns-then-p-low
 returns-then-p-low c =
-    write-stop _ _ _ (start (goal.at.returns-then-p-low c).In-loop-i).requires.0 c.loop-i.invariant c.loop-i-test.true (small (goal.at.returns-then-p-low c).After-shared_slice_known-in-loop-i-1)
+    write-stop _ _ _ (start (goal.at.returns-then-p-low c).In-loop-i).requires.0 c.loop-i.invariant c.loop-i-test.true
+        (small (goal.at.returns-then-p-low c).After-shared_slice_known-in-loop-i-1)
     (sym c.is_char.ensures ∙ c.if-is_char.true) c.if-p-low.true
 
 pub loop-i-preserved-then-is_char : goal.loop-i-preserved-then-is_char
 loop-i-preserved-then-is_char c =
-    write-turn _ _ _ (start (goal.at.loop-i-preserved-then-is_char c).In-loop-i).pre.0 c.loop-i.invariant c.loop-i-test.true (small (goal.at.loop-i-preserved-then-is_char c).After-shared_slice_known-in-loop-i-1) _ _ _
+    write-turn _ _ _ (start (goal.at.loop-i-preserved-then-is_char c).In-loop-i).pre.0 c.loop-i.invariant c.loop-i-test.true
+        (small (goal.at.loop-i-preserved-then-is_char c).After-shared_slice_known-in-loop-i-1) _ _ _
     (sym c.is_char.ensures ∙ c.if-is_char.true)
     c.if-p-low.false c.next-p.ensures c.put.ensures
     c.put-then-is_char.ensures
 
 pub returns-then-step-eq0 : goal.returns-then-step-eq0
 returns-then-step-eq0 c =
-    move-stop _ _ _ (start (goal.at.returns-then-step-eq0 c).In-loop-i).pre.0 c.loop-i.invariant c.loop-i-test.true (small (goal.at.returns-then-step-eq0 c).After-shared_slice_known-in-loop-i-1) _
+    move-stop _ _ _ (start (goal.at.returns-then-step-eq0 c).In-loop-i).pre.0 c.loop-i.invariant c.loop-i-test.true
+        (small (goal.at.returns-then-step-eq0 c).After-shared_slice_known-in-loop-i-1) _
     (sym c.is_char.ensures ∙ c.if-is_char.false) c.read_move-step.ensures c.if-step-eq0.true
 
 pub loop-i-preserved : goal.loop-i-preserved
 loop-i-preserved c =
-    move-turn _ _ _ (start (goal.at.loop-i-preserved c).In-loop-i).pre.0 c.loop-i.invariant c.loop-i-test.true (small (goal.at.loop-i-preserved c).After-shared_slice_known-in-loop-i-1) _
+    move-turn _ _ _ (start (goal.at.loop-i-preserved c).In-loop-i).pre.0 c.loop-i.invariant c.loop-i-test.true
+        (small (goal.at.loop-i-preserved c).After-shared_slice_known-in-loop-i-1) _
     (sym c.is_char.ensures ∙ c.if-is_char.false) c.read_move-step.ensures c.if-step-eq0.false
 
 pub settle-requires : goal.settle-requires
