@@ -1,11 +1,9 @@
 use Prim.Native.Nat.{◌≤◌, ◌-◌}
 use mathlib.Core.Path.{◌≡◌}
-use native.Mathlib.Omega.{arith}
-use borrow.Author.Rules.{rules}
 use lib.ListN.{length}
 use Rattle.layout.specs.Layout.{condition_in}
 use Rattle.inplace.specs.InPlace.{LentIndex}
-use Rattle.inplace.proofs.Running.{Going, going-starts, going-place, going-most, going-turns, going-ends}
+use Rattle.inplace.proofs.Running.{Going}
 use Rattle.inplace.proofs.run.run_in.Given as goal
 
 abbrev pub invariant-loop-i : goal.invariant-loop-i

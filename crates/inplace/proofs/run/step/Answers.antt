@@ -2,7 +2,6 @@ use mathlib.Core.Path.{sym, ◌∙◌}
 use Rattle.condition.proofs.Characters.{plain-char, user-char, no_char}
 use Rattle.inplace.proofs.Branches.{quick-step, char-step, control-step}
 use Rattle.inplace.proofs.Altering.{idle-step}
-use borrow.Author.Rules.{rules}
 use Rattle.inplace.proofs.run.step.Goals as goal
 
 pub returns-then-kind-ne0 : goal.returns-then-kind-ne0
