@@ -8,7 +8,8 @@ use Rattle.inplace.proofs.run.run_in.Given as goal
 
 abbrev pub invariant-loop-i : goal.invariant-loop-i
 invariant-loop-i l =
-    Going (condition_in l.initial.s) l.bytes l.s l.busy l.flickerless l.worst l.i × (length l.bytes ≤ 32768) × (length l.s ≡ length l.initial.s)
+    Going (condition_in l.initial.s) l.bytes l.s l.busy l.flickerless l.worst l.i
+    × (length l.bytes ≤ 32768) × (length l.s ≡ length l.initial.s)
     × (length l.index ≡ length l.initial.index) × LentIndex l.index (condition_in l.s)
 
 abbrev pub decreases-loop-i : goal.decreases-loop-i
