@@ -1,5 +1,6 @@
 // What the glass shows of a condition: what a cell shows, and the dots of a user character.
 #![tactic(auto)]
+
 ghost use Rattle.std.specs.Prelude.{◌≡◌};
 ghost use Rattle.users.specs.Users.{found_in, character_at};
 ghost use Rattle.glass.specs.Shows.{shows_code, euro_or};

@@ -36,9 +36,8 @@ use Rattle.vetting.specs.Vetting.{permitted, longest, stop_of, wrong_after, pict
 use Rattle.vetting.proofs.Stepping.{char_is, standing, goes_on, Went, Stuck, one_more, stopped}
 use Rattle.vetting.proofs.Stepping.{write-went, write-stuck, read-went, read-stuck}
 
--- The first i bytes of the string are whole steps,
-    which lead to the place p and to these cells; no cell below lo is written any more.
--- So every longer beginning is permitted where the rest of it goes on from there
+-- The first i bytes of the string are whole steps, which lead to the place p and to these cells; no cell below lo is written any
+-- more. So every longer beginning is permitted where the rest of it goes on from there
 pub record Reached (c : Condition) (string : List ℕ) (i p lo : ℕ) (cs fs : List ℕ) : Type 0 where
   pub upto : i ≤ length string
   pub inside : p < 40

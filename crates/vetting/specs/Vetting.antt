@@ -33,9 +33,8 @@ unfoldable pub longest : Condition → List ℕ → ℕ → ℕ
 longest c string zero = zero
 longest c string (suc n) = cond (permitted c (take (suc n) string)) (suc n) (longest c string n)
 
--- the earliest byte, counted from 0,
-    at which it stops being permitted steps. Of a bad or cut jump this is its 1Bh: no beginning that
--- ends in a part of a jump is permitted
+-- the earliest byte, counted from 0, at which it stops being permitted steps. Of a bad or cut jump this is its 1Bh: no beginning
+-- that ends in a part of a jump is permitted
 abbrev pub stop_of : Condition → List ℕ → ℕ
 stop_of c string = longest c string (length string)
 
