@@ -17,14 +17,15 @@ show_lounge: target/bin/show_lounge    ## the sample program of the old lounge m
 salvage: target/bin/salvage    ## the program that salvages a file of blocks, target/bin/salvage
 vet: target/bin/vet     ## the program that vets other people's bytes, target/bin/vet
 
-$(LIB): $(SOURCES)
-	rt staticlib sign
+# rt leaves a product as it is where nothing but times changed. It makes each in its crate's own folder, out/.
+target/staticlib/lib%.a: $(SOURCES)
+	cd crates/$* && rt lib
+	@mkdir -p $(@D) && cp -p crates/$*/out/lib$*.a $@ && touch $@
 
-# rt leaves a program as it is where nothing but times changed, and does not make one anew that was removed.
-target/bin/show target/bin/tell target/bin/show_lounge target/bin/salvage target/bin/vet: $(SOURCES)
-	@test -e $@ || rm -f target/stamp/$(@F)
-	rt check $(@F)
-	@touch -c $@
+# To make a program rt also runs it: on no input and no argument, which each program takes.
+target/bin/%: $(SOURCES)
+	cd crates/$* && rt run </dev/null >/dev/null
+	@mkdir -p $(@D) && cp -p crates/$*/out/$* $@ && touch $@
 
 demo: target/bin/show $(LIB)    ## runs show and two host programs in C, and shows what they print
 	. tests/tools.sh && need c && $$RUN target/bin/show < examples/greeting.bin
@@ -45,8 +46,8 @@ install: $(LIB)    ## library, header and pkg-config file under PREFIX (or LIBDI
 uninstall:    ## removes the three files of install, with the same PREFIX, LIBDIR, INCLUDEDIR and DESTDIR
 	rm -f "$(DESTDIR)$(LIBDIR)/libsign.a" "$(DESTDIR)$(LIBDIR)/pkgconfig/sign.pc" "$(DESTDIR)$(INCLUDEDIR)/sign.h"
 
-clean:    ## removes target/ with all that was proved and built
-	rm -rf target
+clean:    ## removes target/ and each crate's out/, with all that was proved and built
+	rm -rf target crates/*/out
 
 help:    ## this list
 	@awk -F ':.*## ' '/^[a-z_]+:.*## / { printf "make %-11s %s\n", $$1, $$2 }' Makefile

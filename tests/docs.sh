@@ -76,7 +76,7 @@ references() {
             for (i = 2; i <= n; i += 2) {
                 path = part[i]
                 names = sub(/: .*/, "", path) ? substr(part[i], length(path) + 3) : ""
-                if (path ~ /[^\/ ]\/[^\/ ]/ && path !~ /^proofs\//) { # proofs/F/Proof.antt is of any function F
+                if (path ~ /[^\/ ]\/[^\/ ]/ && path !~ /^proofs\//) { # proofs/F/Answers.antt is of any function F
                     if (i == 2 && /^Definitions: /) section = path
                     m = split(names, name, ", ")
                     if (m == 0) print at(), path
@@ -101,7 +101,7 @@ dead_references() {
     done
     while read -r place path name; do
         [ "$path" != OPEN ] || { echo "$place: a backtick is not closed on its line"; continue; }
-        for file in "crates/$path.antt" "crates/$path.edit" "crates/$path.slip" "crates/$path" "$path"; do
+        for file in "crates/$path.antt" "crates/$path.edit" "crates/$path" "$path"; do
             [ ! -e "$file" ] || break
         done
         if [ ! -e "$file" ]; then
@@ -120,29 +120,24 @@ missing_places() {
 
 miscrated() {
     sed -n 's/^| `\([a-z_]*\)` |.*/\1/p' README.md | sort >"$work/told"
-    sed -n 's/^\([a-z_]*\):.*/\1/p' crates.txt | sort | comm -3 - "$work/told" |
+    sed -n 's/^\([a-z_]*\)\( staticlib\)\{0,1\}:.*/\1/p' crates.txt | sort | comm -3 - "$work/told" |
         sed 's/[[:space:]]//g; s/.*/README.md: the crate & is not both there and in crates.txt/'
 }
 
-# An edit of a contract in src/ is one of a definition: it names the logic's own signs. A proof that follows the code
-# statement by statement (a walk, by hand) is changed along with the code.
+# An edit of a contract in src/ is one of a definition: it names the logic's own signs.
 miscounted() {
-    code=0 definition=0 both=0 walked=0
-    for edit in crates/*/must-fail/*.edit crates/*/must-fail/*.slip; do
+    signs='≡|≤|\.(now|old|new)([^a-z_]|$)'
+    code=0 definition=0 both=0
+    for edit in crates/*/must-fail/*.edit; do
         for file in $(sed -n 's/^file: //p' "$edit"); do
             case $file in
             src/* | specs/*) ;;
-            *)
-                grep -q 'a walk of its MIR, by hand' "${edit%/must-fail/*}/$file" ||
-                    echo "$edit: $file is neither code nor a definition"
-                ;;
+            *) echo "$edit: $file is neither code nor a definition" ;;
             esac
         done
-        defined=$(grep -cE '^file: specs/|^old: .*(⌜|⌝|≡|now \()' "$edit" || true)
-        coded=$(awk '/^file: /{ f = $2 } /^old: / && f ~ /^src\// && !/⌜|⌝|≡|now \(/ { n++ } END { print n + 0 }' "$edit")
-        if grep -q '^file: proofs/' "$edit"; then
-            walked=$((walked + 1))
-        elif [ "$defined" -eq 0 ]; then
+        defined=$(grep -cE "^file: specs/|^old: .*($signs)" "$edit" || true)
+        coded=$(awk -v signs="$signs" '/^file: /{ f = $2 } /^old: / && f ~ /^src\// && $0 !~ signs { n++ } END { print n + 0 }' "$edit")
+        if [ "$defined" -eq 0 ]; then
             code=$((code + 1))
         elif [ "$coded" -eq 0 ]; then
             definition=$((definition + 1))
@@ -150,8 +145,8 @@ miscounted() {
             both=$((both + 1))
         fi
     done
-    said="$((code + walked + definition + both)) edits: $code of the code alone, $walked of the code and the walk"
-    said="$said that is its proof, $definition of a definition alone, $both of code and definition"
+    said="$((code + definition + both)) edits: $code of the code alone, $definition of a definition alone, $both of code and"
+    said="$said definition"
     tr '\n' ' ' <docs/PROMISES.md | grep -qF "$said" || echo "docs/PROMISES.md: it should say \"$said\""
 }
 

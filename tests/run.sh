@@ -1,11 +1,11 @@
 #!/bin/sh
 # Builds and runs one test, or a measure: tests/run.sh NAME. See tests/README.md. The gate runs these:
-tests='docs wrong self show tell show_lounge salvage vet host questions plans fonts reels recovery vetting lounge index alike c-host example dump station install stack'
+tests='docs self show tell show_lounge salvage vet host questions plans fonts reels recovery vetting lounge index alike c-host example dump station install stack'
 set -eu
 cd "$(dirname "$0")/.."
 case ${1:-} in
 names) echo "$tests" && exit ;;
-docs | wrong) name=$1 && shift && exec "tests/$name.sh" "$@" ;; # they want no compiler
+docs) exec tests/docs.sh ;; # it wants no compiler
 esac
 . tests/tools.sh
 out=target/tests
@@ -14,9 +14,8 @@ mkdir -p "$out"
 # The Makefile knows when a product is older than its sources. (Its own options, as -j, are not for this one.)
 program() { MAKEFLAGS='' make -s "$1"; }
 library() { MAKEFLAGS='' make -s lib; }
-# The entries lounge_entry and index_entry are for the tests alone, and make does not know them: rt sees whether one is
-# current.
-entry() { rt staticlib "$1" >"$out/$1.log" 2>&1 || { cat "$out/$1.log" >&2; exit 1; }; }
+# The entries lounge_entry and index_entry are for the tests alone: no goal of make's help names them.
+entry() { MAKEFLAGS='' make -s "target/staticlib/lib$1.a" >"$out/$1.log" 2>&1 || { cat "$out/$1.log" >&2; exit 1; }; }
 
 # alone NAME: a test program of this machine; linked NAME WORDS: one that is linked with libsign.a; entered ENTRY NAME
 # WORDS: one that is linked with libENTRY.a

@@ -13,7 +13,7 @@ import os
 import re
 import sys
 
-TOKEN = re.compile(r"[A-Za-z_][\w'\-]*")
+TOKEN = re.compile(r"(?<![0-9])[A-Za-z_][\w'\-]*")  # and no part of a number, as of 0xAD
 COMMENT = {".antt": "--", ".rt": "//"}
 # port.py gave these lemmas the spelling that a definition has now: they have their dash again.
 LEMMAS = {w: w.replace("_", "-") for w in ("first_byte", "goes_on", "held_in", "index_agrees", "in_order", "whole_in")}

@@ -5,16 +5,19 @@ use Prim.Native.Nat.{ℕ}
 use lib.ListN.{length}
 use borrow.Author.Tests.{eq-eqb, le-leb}
 use Rattle.row.specs.Row.{line_start, scrolled, shifted}
-use Rattle.users.specs.Users.{room_of, limit_of, found_in, is_user, character_at, put_of, removed, without, with_youngest, define_of}
+use Rattle.users.specs.Users.{room_of, limit_of, found_in, is_user, character_at, put_of, removed, without, with_youngest}
+use Rattle.users.specs.Users.{define_of}
 use Rattle.dots.specs.Dots.{dot_of, lit_up_to, lit_of}
 use Rattle.row.specs.Row.{all_up_to, same_bytes}
 use Rattle.users.specs.Users.{absent, places_formed, held_formed}
 use Rattle.index.specs.Index.{entries_from, index_of, index_agrees}
 use Rattle.condition.specs.Condition.{numbers_good, scroll_good, escape_good, well_formed}
 use Rattle.condition.specs.Condition.{power_up}
-use Rattle.condition.specs.Bytes.{scroll_of, left_of, right_of, down_of, return_of, clear_of, push_of, write_of, is_char, control_of}
+use Rattle.condition.specs.Bytes.{scroll_of, left_of, right_of, down_of, return_of, clear_of, push_of, write_of, is_char}
+use Rattle.condition.specs.Bytes.{control_of}
 use Rattle.condition.specs.Bytes.{escape_of, position_of, data_of, step_at, run_of}
-use Rattle.condition.specs.Busy.{right_scrolls, down_scrolls, line_shifts, write_busy, control_busy, escape_busy, quick_at, total_of}
+use Rattle.condition.specs.Busy.{right_scrolls, down_scrolls, line_shifts, write_busy, control_busy, escape_busy, quick_at}
+use Rattle.condition.specs.Busy.{total_of}
 use Rattle.interpreter.specs.Run.{within_limit, tallied, run_refusal, run_answer}
 use Rattle.glass.specs.Shows.{shows_code, shows_of}
 use Rattle.glass.specs.Answers.{lookup_of, dot_answer, lit_answer}

@@ -5,7 +5,8 @@ use Rattle.users.specs.Users.{room_of, limit_of, found_in, is_user, put_of, remo
 use Rattle.users.specs.Users.{absent, places_formed, users_formed, held_formed}
 use Rattle.lounge.specs.Condition.{is_area, numbers_formed, scroll_formed, well_formed, reset_of}
 use Rattle.lounge.specs.Marks.{mark_of, has_mark, is_pair, marked_area, cancelled}
-use Rattle.lounge.specs.Pairs.{scroll_of, tab_of, return_of, push_of, after_write, write_of, is_char, marking_of, control_of, dimmed_by}
+use Rattle.lounge.specs.Pairs.{scroll_of, tab_of, return_of, push_of, after_write, write_of, is_char, marking_of, control_of}
+use Rattle.lounge.specs.Pairs.{dimmed_by}
 use Rattle.lounge.specs.Pairs.{area_of}
 use Rattle.lounge.specs.Pairs.{data_of, written_at, home_in, line_reset_of, command_of, step_of, run_of}
 use Rattle.lounge.specs.Shows.{shows_of, level_of, seen_of, view_answer}

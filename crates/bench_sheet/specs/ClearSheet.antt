@@ -22,7 +22,7 @@ clear_sheet =
     ∷ record { bytes = 0x41 ∷ 0x0c ∷ []; holds = λ c busy. Planned c blank 5 (0x20 ∷ 0x1b ∷ 0x48 ∷ 0x05 ∷ []) }
     -- 19 1A, forty B1h, then plan 42h in font 0 at 0, else 20h in font 1, cursor 0: cleared in font 1, 0E 18 1A 42 08
     ∷ record {
-      bytes = 0x19 ∷ 0x1a ∷ replicate 40 0x_b1;
+      bytes = 0x19 ∷ 0x1a ∷ replicate 40 0xb1;
       holds = λ c busy. PlannedFonts c short (set (replicate 40 1) 0 0) 0 (0x0e ∷ 0x18 ∷ 0x1a ∷ 0x42 ∷ 0x08 ∷ []);
     }
     -- forty 41h, then plan a blank picture wholly in font 1, cursor 0: no help from the clear; 19, forty 20

@@ -23,8 +23,8 @@ fonts_sheet =
     record {
       bytes = [];
       holds = λ c busy.
-          PlannedFonts c (set (set blank 0 0x41) 20 0x_b1) (set (replicate 40 0) 20 1) 0
-          (0x41 ∷ 0x08 ∷ 0x0a ∷ 0x19 ∷ 0x_b1 ∷ 0x0c ∷ []);
+          PlannedFonts c (set (set blank 0 0x41) 20 0xb1) (set (replicate 40 0) 20 1) 0
+          (0x41 ∷ 0x08 ∷ 0x0a ∷ 0x19 ∷ 0xb1 ∷ 0x0c ∷ []);
     }
     -- Euro on, fonts in turn: 19 41 18 1A 42 19 43 18 1A 44
     ∷ record {
@@ -37,6 +37,7 @@ fonts_sheet =
     ∷ record {
       bytes = 0x19 ∷ 0x1a ∷ 0x1b ∷ 0x48 ∷ 0x05 ∷ [];
       holds = λ c busy.
-          (fonts_refusal c (replicate 40 0x41) in_turn 39 104 ≡ 0) × (length (either_fonts_plan c (replicate 40 0x41) in_turn 39) ≡ 104);
+          (fonts_refusal c (replicate 40 0x41) in_turn 39 104 ≡ 0)
+              × (length (either_fonts_plan c (replicate 40 0x41) in_turn 39) ≡ 104);
     }
     ∷ []

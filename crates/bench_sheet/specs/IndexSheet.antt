@@ -13,12 +13,12 @@ index_sheet =
     record { bytes = []; holds = λ c busy. c.index ≡ replicate 256 0 }
     -- 41h and then FFh defined: places 1 and 2, and no other
     ∷ record {
-      bytes = defining 0x41 0x00 ++ defining 0x_ff 0x00;
+      bytes = defining 0x41 0x00 ++ defining 0xff 0x00;
       holds = λ c busy. c.index ≡ replicate 65 0 ++ 1 ∷ replicate 189 0 ++ 2 ∷ [];
     }
     -- 41h, 42h and 41h again: it is the youngest, and 42h the oldest
     ∷ record {
-      bytes = defining_from 2 0x41 0x00 ++ defining 0x41 0x_ff;
+      bytes = defining_from 2 0x41 0x00 ++ defining 0x41 0xff;
       holds = λ c busy. (entry c 0x41 ≡ 2) × (entry c 0x42 ≡ 1);
     }
     -- 17 definitions, 41h to 51h: 41h is gone, 42h the oldest, 51h the youngest

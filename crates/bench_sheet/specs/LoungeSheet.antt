@@ -131,7 +131,7 @@ lounge_sheet =
     }
     -- 1B 1B 00 00 00 00 FF makes 1Bh a character, of whose fifth byte three bits stay; ESC is then written, and 17h still waits
     ∷ record {
-      pairs = data_writes (0x1b ∷ 0x1b ∷ 0x00 ∷ 0x00 ∷ 0x00 ∷ 0x00 ∷ 0x_ff ∷ 0x1b ∷ 0x41 ∷ 0x17 ∷ []);
+      pairs = data_writes (0x1b ∷ 0x1b ∷ 0x00 ∷ 0x00 ∷ 0x00 ∷ 0x00 ∷ 0xff ∷ 0x1b ∷ 0x41 ∷ 0x17 ∷ []);
       holds =
           λ c. (take 2 c.codes ≡ 0x1b ∷ 0x41 ∷ []) × (get_or c.users 5 0 ≡ 7) × (c.pending ≡ First 0x17)
           × ((view_answer c 0).shows ≡ User 0x1b);

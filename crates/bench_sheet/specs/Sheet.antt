@@ -1,5 +1,6 @@
 -- The bench sheet (document 01; the last case 02, W3): fifteen cases, each from power-up font 0.
-use Rattle.std.specs.Prelude.{ℕ, zero, suc, ◌≤◌, ◌≡◌, List, [], ◌∷◌, ◌++◌, true, false, cond, length, get_or, set, drop, replicate, eqb}
+use Rattle.std.specs.Prelude.{ℕ, zero, suc, ◌≤◌, ◌≡◌, List, [], ◌∷◌, ◌++◌, true, false, cond, length, get_or, set, drop, replicate}
+use Rattle.std.specs.Prelude.{eqb}
 use Rattle.users.specs.Users.{is_user, place_at}
 use Rattle.condition.specs.declared.Condition.{Condition}
 use Rattle.glass.specs.declared.Shows.TheVariants.{Blank, Euro}
@@ -82,12 +83,13 @@ sheet =
     ∷ record {
       bytes = 0x1b ∷ 0x43 ∷ 0x21 ∷ 0x84 ∷ 0x10 ∷ 0x02 ∷ 0x00 ∷ 0x01 ∷ [];
       holds = λ c busy.
-          (dots_up_to c 0x21 35 ≡ 3 ∷ 8 ∷ 13 ∷ 18 ∷ 33 ∷ []) × (lit_answer c 0x21 ≡ record { refusal = 0; value = 5 }) × (busy ≡ 55);
+          (dots_up_to c 0x21 35 ≡ 3 ∷ 8 ∷ 13 ∷ 18 ∷ 33 ∷ []) × (lit_answer c 0x21 ≡ record { refusal = 0; value = 5 })
+              × (busy ≡ 55);
     }
     -- 8. 1B 48 14 08: cursor 20
     ∷ record { bytes = 0x1b ∷ 0x48 ∷ 0x14 ∷ 0x08 ∷ []; holds = λ c busy. c.cursor ≡ 20 }
     -- 9. 1A AD shows Euro; then 18, blank
-    ∷ record { bytes = 0x1a ∷ 0x_ad ∷ []; holds = λ c busy. (shows_of c 0 ≡ Euro) × (shows_of (run_of c (0x18 ∷ [])) 0 ≡ Blank) }
+    ∷ record { bytes = 0x1a ∷ 0xad ∷ []; holds = λ c busy. (shows_of c 0 ≡ Euro) × (shows_of (run_of c (0x18 ∷ [])) 0 ≡ Blank) }
     -- 10. 1B 43 09 00 00 00 00 00 09: cell 0 is 09h, cursor 1; plans refused 8
     ∷ record {
       bytes = 0x1b ∷ 0x43 ∷ 0x09 ∷ 0x00 ∷ 0x00 ∷ 0x00 ∷ 0x00 ∷ 0x00 ∷ 0x09 ∷ [];

@@ -58,7 +58,8 @@ unfolding write_answer write_out
 unwritten c out n e h =
     record { answer = rw (e, ne_eqb n 0 h); buffer = rw (e, ne_eqb n 0 h); back = λ z. absurd (h z) }
 
-pub not-formed : (c : Condition) (out : List ℕ) → well_formed c ≡ false → WritePromise c out (record { refusal = 3; length = 0 }) out
+pub not-formed : (c : Condition) (out : List ℕ) → well_formed c ≡ false
+    → WritePromise c out (record { refusal = 3; length = 0 }) out
 unfolding write_refusal
 not-formed c out w = unwritten c out 3 (rw w) (λ z. omega arith)
 

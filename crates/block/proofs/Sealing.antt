@@ -114,4 +114,5 @@ put-block c z out first l x w h ef ew el ex =
     let b : take 510 (body_of c) ≡ body_of c = take_all 510 (body_of c) (omega (arith, length-body c z)) in
     let k : w % 65521 ≡ check_of (body_of c) = rw (b, weigh-over (packed_of c) 1 310, ew, ef) in
     rw (t, y, d, ← append_assoc (packed_of c) (replicate 310 0) (get_or out 510 0 ∷ get_or out 511 0 ∷ drop 512 out))
-    (sealing (body_of c) (drop 512 out) (w % 65521) (get_or out 510 0) (get_or out 511 0) (length-body c z) k ∙ sym (put-room c out h))
+    (sealing (body_of c) (drop 512 out) (w % 65521) (get_or out 510 0) (get_or out 511 0) (length-body c z) k
+    ∙ sym (put-room c out h))

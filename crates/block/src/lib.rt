@@ -1,5 +1,6 @@
 // The condition as bytes: the 512-byte block (document 01, Block).
 #![tactic(auto)]
+
 ghost use Rattle.std.specs.Prelude.{◌≡◌, ◌≤◌, cond, length};
 ghost use Rattle.block.specs.Block.{weigh, check_of, put_over};
 ghost use Rattle.block.specs.Reading.{intact, damage_of, refused_of, ReadPromise};

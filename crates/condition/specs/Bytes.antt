@@ -1,5 +1,6 @@
 -- What a byte does (document 01; source 000, section 6.1).
-use Rattle.std.specs.Prelude.{ℕ, ◌+◌, ◌-◌, ◌/◌, ◌%◌, List, [], ◌∷◌, Bool, true, false, cond, ◌&&◌, ◌||◌, set, replicate, eqb, ltb, leb}
+use Rattle.std.specs.Prelude.{ℕ, ◌+◌, ◌-◌, ◌/◌, ◌%◌, List, [], ◌∷◌, Bool, true, false, cond, ◌&&◌, ◌||◌, set, replicate, eqb, ltb}
+use Rattle.std.specs.Prelude.{leb}
 use Rattle.row.specs.Row.{line_start, scrolled, shifted}
 use Rattle.users.specs.Users.{is_user, define_of}
 use Rattle.condition.specs.declared.Condition.{Condition}

@@ -58,7 +58,8 @@ clear_byte c b = idle c.pending && not (is_char c b) && eqb b 0x0e
 -- both kinds of start: a reading-order string, or 0Eh and then a reading-order string from the cleared condition
 unfoldable pub either_start : Bool → Condition → List ℕ → Bool
 either_start switching c [] = reading_order switching c []
-either_start switching c (b ∷ bs) = reading_order switching c (b ∷ bs) || (clear_byte c b && reading_order switching (step_of c b) bs)
+either_start switching c (b ∷ bs) = reading_order switching c (b ∷ bs) ||
+    (clear_byte c b && reading_order switching (step_of c b) bs)
 
 -- a cell is wrong when its code differs or its font is not the selected one
 unfoldable pub wrong : Condition → List ℕ → ℕ → Bool

@@ -1,5 +1,6 @@
 // A module's condition: what it holds, when it is well formed, and power-up.
 #![tactic(auto)]
+
 ghost use Rattle.std.specs.Prelude.{◌≡◌};
 ghost use Rattle.condition.specs.Condition.{idle, held_of, numbers_good};
 ghost use Rattle.condition.specs.Condition.{scroll_good, well_formed, power_up, power_up_answer};

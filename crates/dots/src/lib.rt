@@ -1,5 +1,6 @@
 // The dots of a user character (document 01, What a cell shows).
 #![tactic(auto)]
+
 ghost use Rattle.std.specs.Prelude.{◌≡◌, ◌≤◌};
 ghost use Rattle.std.specs.Int.Count.{ones};
 ghost use Rattle.dots.specs.Dots.{byte_of, dot_of, underline_of, lit_of};

@@ -16,7 +16,7 @@ unfoldable pub shows_code : Condition → ℕ → ℕ → Shows
 shows_code c code font =
     cond (is_user c.users code) (User code)
     (cond (ltb code 0x20) Blank
-    (cond (eqb code 0x_ad && eqb font 0) (euro_or c.euro)
+    (cond (eqb code 0xad && eqb font 0) (euro_or c.euro)
     (BuiltIn code font)))
 
 -- what the cell at a position shows

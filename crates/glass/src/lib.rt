@@ -1,5 +1,6 @@
 // What the glass shows of a condition: what a cell shows, and the dots of a user character.
 #![tactic(auto)]
+
 ghost use Rattle.std.specs.Prelude.{◌≡◌};
 ghost use Rattle.users.specs.Users.{found_in, character_at};
 ghost use Rattle.glass.specs.Shows.{shows_code, euro_or};
@@ -49,7 +50,7 @@ fn shows_code(c: Condition, code: u8, font: u8) -> Shows
     if code < 0x20 {
         return Shows::Blank;
     }
-    if (code == 0x_ad) & (font == 0) {
+    if (code == 0xad) & (font == 0) {
         return euro_or(c.euro);
     }
     Shows::BuiltIn(code, font)

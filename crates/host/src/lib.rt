@@ -1,5 +1,6 @@
 // What the calls of the C host program on a block share: opening it, and an answer with its refusal as one number.
 #![tactic(auto)]
+
 ghost use Rattle.std.specs.Prelude.{◌≡◌, ◌≤◌};
 ghost use Rattle.host.specs.Host.{opened_of, base_of, host_answer};
 

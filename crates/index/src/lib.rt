@@ -1,6 +1,7 @@
 // The index of user codes: for each code its place in the list, counted from 1, or 0 where no user character sits on it. So a
 // code is looked up and not searched for.
 #![tactic(auto)]
+
 ghost use Rattle.std.specs.Prelude.{◌≡◌, length};
 ghost use Rattle.index.specs.Index.{index_of, index_agrees};
 

@@ -30,7 +30,8 @@ module _ (s : List ℕ) (r : Bool) (at : r ≡ ltb (get_or s 3 0 % 20) 19) where
   unfolding right_of
   right-stays e m = rw (cursor-at s, ← at, e, mode-at s, eq-eqb _ _ m)
 
-  pub right-next : r ≡ false → (get_or s 4 0 ≡ 3 → ⊥) → get_or s 3 0 ≡ 19 → with_cursor (condition_in s) 20 ≡ right_of (condition_in s)
+  pub right-next : r ≡ false → (get_or s 4 0 ≡ 3 → ⊥) → get_or s 3 0 ≡ 19
+      → with_cursor (condition_in s) 20 ≡ right_of (condition_in s)
   unfolding right_of
   right-next e m x = rw (cursor-at s, ← at, e, mode-at s, ne_eqb _ _ m, eq-eqb _ _ x)
 
@@ -73,7 +74,8 @@ pub awaits-data : (k code n : ℕ) → 0 < k → (k ≡ 1 → ⊥) → (k ≡ 2 
 awaits-data k code n h h1 h2 h3 h4 h5 = sym (kind-above-5 k code n (omega arith))
 
 -- a byte of user data
-pub data-step : (s : List ℕ) (b : ℕ) → pending_of (get_or s 13 0) (get_or s 14 0) (get_or s 15 0) ≡ UserData (get_or s 14 0) (get_or s 15 0)
+pub data-step : (s : List ℕ) (b : ℕ)
+    → pending_of (get_or s 13 0) (get_or s 14 0) (get_or s 15 0) ≡ UserData (get_or s 14 0) (get_or s 15 0)
     → data_of (condition_in s) (get_or s 14 0) (get_or s 15 0) b ≡ step_of (condition_in s) b
 unfolding step_at
 data-step s b e = half_step s b _ e

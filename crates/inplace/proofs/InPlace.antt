@@ -124,7 +124,8 @@ hold-in s n d l h = stored (λ (l : List ℕ). set l (16 + n) d) (λ (k : Condit
     at (suc (suc (suc (suc n)))) l = let z : ⊥ = omega arith in absurd z
 
 -- the bytes held, one by one
-pub held-in : (s : List ℕ) → 200 ≤ length s → (condition_in s).held ≡ get_or s 16 0 ∷ get_or s 17 0 ∷ get_or s 18 0 ∷ get_or s 19 0 ∷ []
+pub held-in : (s : List ℕ) → 200 ≤ length s
+    → (condition_in s).held ≡ get_or s 16 0 ∷ get_or s 17 0 ∷ get_or s 18 0 ∷ get_or s 19 0 ∷ []
 unfolding condition_in
 held-in s h =
     each 24 (λ (s : List ℕ). (condition_in s).held ≡ get_or s 16 0 ∷ get_or s 17 0 ∷ get_or s 18 0 ∷ get_or s 19 0 ∷ [])
@@ -261,7 +262,8 @@ forget-by s x h hx p =
 -- the user characters' bytes and count after a definition
 pub define-by : (s x : List ℕ) (n code last : ℕ) → 200 ≤ length s → length x ≡ 96 → 200 ≤ length (spliced 104 96 s x)
     → users_in x n
-    ≡ define_in (take 96 (drop 104 s)) (get_or s 20 0) code (get_or s 16 0 ∷ get_or s 17 0 ∷ get_or s 18 0 ∷ get_or s 19 0 ∷ []) last
+    ≡ define_in (take 96 (drop 104 s)) (get_or s 20 0) code
+    (get_or s 16 0 ∷ get_or s 17 0 ∷ get_or s 18 0 ∷ get_or s 19 0 ∷ []) last
     → condition_in (set (spliced 104 96 s x) 20 n) ≡ defined_in (condition_in s) code last
 unfolding define_in
 define-by s x n code last h hx hl e =

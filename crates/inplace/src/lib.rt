@@ -1,6 +1,7 @@
 // What bytes do to a condition, worked out in place on the condition packed in 200 bytes, with the index of its user codes lent
 // beside them.
 #![tactic(auto)]
+
 ghost use Rattle.std.specs.Prelude.{◌≡◌};
 ghost use Rattle.inplace.specs.Carry.{untouched_of, after_of};
 

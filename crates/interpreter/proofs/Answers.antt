@@ -186,7 +186,8 @@ refusal-of : (c : Condition) (t : Tally) (bs : List ℕ) → (run_answer c t bs)
 unfolding run_answer
 refusal-of c t bs = number_by (λ (r : Ran). r.refusal) (run_refusal c t bs) refl refl
 
-pub not-refused : (c : Condition) (t : Tally) (bs : List ℕ) → (run_answer c t bs).refusal ≡ 0 → run_answer c t bs ≡ accepted_of c t bs
+pub not-refused : (c : Condition) (t : Tally) (bs : List ℕ) → (run_answer c t bs).refusal ≡ 0
+    → run_answer c t bs ≡ accepted_of c t bs
 unfolding run_answer
 not-refused c t bs =
     by-test (λ (r : Ran). r.refusal ≡ 0 → r ≡ accepted_of c t bs) (eqb (run_refusal c t bs) 0) (λ _ _. refl)

@@ -1,5 +1,6 @@
 // A run: what bytes do to a condition and to the tally.
 #![tactic(auto)]
+
 ghost use Rattle.std.specs.Prelude.{◌≡◌};
 ghost use Rattle.interpreter.specs.Run.{within_limit, zero_tally, refused_of, RunPromise, LentPromise};
 

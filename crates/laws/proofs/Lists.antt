@@ -7,7 +7,8 @@ use native.Mathlib.Numerals.{add-one}
 use native.Mathlib.Omega.{arith}
 use lib.ListN.{length, get_or, take, drop, set, replicate, length-drop, length-set, length-replicate, take-append-drop}
 use lib.ListN.{get_or-append, replicate-append-replicate, drop_of_length-le}
-use lib.Seq.{sets, take_all, take_at, drop_at, drop-drop, drop-cons, length-take-le, get_or-set_same, get_or-set_other, get_or-append-add}
+use lib.Seq.{sets, take_all, take_at, drop_at, drop-drop, drop-cons, length-take-le, get_or-set_same, get_or-set_other}
+use lib.Seq.{get_or-append-add}
 
 -- the part of a list from a place on
 pub tail-part : (s : List ℕ) (at : ℕ) → take (length s - at) (drop at s) ≡ drop at s

@@ -1,5 +1,6 @@
 // Where each part of a condition stands in a block's first 200 bytes (document 01, Block).
 #![tactic(auto)]
+
 ghost use Rattle.std.specs.Prelude.{◌≡◌, ◌&&◌, ◌++◌, ◌≤◌, length};
 ghost use Rattle.laws.specs.Flags.{flag};
 ghost use Rattle.condition.specs.Condition.{held_of, numbers_good, scroll_good, well_formed};

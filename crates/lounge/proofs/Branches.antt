@@ -73,8 +73,8 @@ pub tab-one : (h codes marks h' : List ℕ) → get_or h 0 0 % 20 < 19 → Sets 
 unfolding lounge_in tab_of
 tab-one h codes marks h' l s us = s codes marks us ∙ rw (lt-ltb (get_or h 0 0 % 20) 19 l)
 
-pub tab-next : (h codes marks h' : List ℕ) → 19 ≤ get_or h 0 0 % 20 → get_or h 0 0 ≡ 19 → Sets (λ c. go_to c (get_or h 0 0 + 1)) h h'
-    → SetsCells tab_of h codes marks h' codes marks
+pub tab-next : (h codes marks h' : List ℕ) → 19 ≤ get_or h 0 0 % 20 → get_or h 0 0 ≡ 19
+    → Sets (λ c. go_to c (get_or h 0 0 + 1)) h h' → SetsCells tab_of h codes marks h' codes marks
 unfolding lounge_in tab_of
 tab-next h codes marks h' l e s us = s codes marks us ∙ rw (le-ltb (get_or h 0 0 % 20) 19 l, eq-eqb (get_or h 0 0) 19 e, e)
 

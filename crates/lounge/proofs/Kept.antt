@@ -24,8 +24,9 @@ use Rattle.lounge.specs.Condition.{reset_of}
 use Rattle.lounge.specs.Set.{with_cells, with_marks, with_cursor, with_dimming, with_last, with_pending, with_cell}
 use Rattle.lounge.specs.Set.{go_to}
 use Rattle.lounge.specs.Marks.{bright, blink, underline, mark_of, is_pair, marked, unmarked, marked_area, cancelled}
-use Rattle.lounge.specs.Pairs.{scroll_of, tab_of, return_of, mode_of, push_of, after_write, write_of, is_char, marking_of, control_of}
-use Rattle.lounge.specs.Pairs.{dimmed_by, area_of, data_of, written_at, written_of, home_in, line_reset_of, command_of, step_of, run_of}
+use Rattle.lounge.specs.Pairs.{scroll_of, tab_of, return_of, mode_of, push_of, after_write, write_of, is_char}
+use Rattle.lounge.specs.Pairs.{marking_of, control_of, dimmed_by, area_of, data_of, written_at, written_of}
+use Rattle.lounge.specs.Pairs.{home_in, line_reset_of, command_of, step_of, run_of}
 
 -- Sizes: every condition of the code has them
 pub record Sized (c : Lounge) : Type 0 where

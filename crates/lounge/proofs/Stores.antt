@@ -88,7 +88,8 @@ held-in h codes marks us l =
     (search) h (omega arith)
 
 -- the condition that a head and three rows make
-pub whole-in : (h codes marks us : List ℕ) (p : Pending) → length h ≡ 13 → p ≡ pending_of (get_or h 6 0) (get_or h 7 0) (get_or h 8 0)
+pub whole-in : (h codes marks us : List ℕ) (p : Pending) → length h ≡ 13
+    → p ≡ pending_of (get_or h 6 0) (get_or h 7 0) (get_or h 8 0)
     → ◌≡◌ {A = Lounge}
     (record {
       codes = codes;

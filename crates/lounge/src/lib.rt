@@ -1,5 +1,6 @@
 // The lounge module, the CU20026MCPB: its condition, what pairs of bytes do to it, and what a cell shows.
 #![tactic(auto)]
+
 ghost use Rattle.std.specs.Prelude.{◌≡◌};
 ghost use Rattle.lounge.specs.Condition.{held_of, is_area, area_formed, numbers_formed, scroll_formed, well_formed, reset_of};
 ghost use Rattle.lounge.specs.Run.{kinds_formed, refused_of, RunPromise};

@@ -1,6 +1,7 @@
 // The lounge module from C, for the tests of the compiled code: a condition in four slices, its head of 13 bytes, its codes, its
 // marks and its user characters. No host is given this.
 #![tactic(auto)]
+
 ghost use Rattle.std.specs.Prelude.{◌≡◌, cond, ◌≤◌, length};
 ghost use Rattle.lounge.specs.Head.{head_of, lounge_in};
 ghost use Rattle.lounge_entry.specs.Entry.{sizes_right, shows_number, level_number, seen_number, view_number, RunIn};

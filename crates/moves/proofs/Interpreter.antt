@@ -188,7 +188,8 @@ carried k a xs n f o =
 
 -- The other way round: a string of the planner's steps that writes nothing is a string of moves. No cell is at 40, so where no cell
 -- below 40 may be written a string in order has no write.
-leads-back : (c : Condition) → Ready c → (bs : List ℕ) (k : Jump) (a : ℕ) → a < 40 → in_order false false (partly c k a) 40 bs ≡ true
+leads-back : (c : Condition) → Ready c → (bs : List ℕ) (k : Jump) (a : ℕ) → a < 40
+    → in_order false false (partly c k a) 40 bs ≡ true
     → leads_to k a (run_of (partly c k a) bs).cursor bs ≡ true
 unfolding run_of leads_to owed next_byte in_order step_byte low_after escape_of step_at is_char
 leads-back c r [] none a h o = eq-eqb a a refl
@@ -228,7 +229,8 @@ writeless c bs r o =
 
 -- so, of all strings of the planner's steps that write nothing and bring the cursor to b, none is shorter than its way, and none of
 -- that length is smaller
-pub way-law : (c : Condition) (bs : List ℕ) (b : ℕ) → Ready c → b < 40 → in_order false false c 40 bs ≡ true → (run_of c bs).cursor ≡ b
+pub way-law : (c : Condition) (bs : List ℕ) (b : ℕ) → Ready c → b < 40 → in_order false false c 40 bs ≡ true
+    → (run_of c bs).cursor ≡ b
     → (length (path c.cursor b) ≤ length bs) × (length bs ≡ length (path c.cursor b) → at_most (path c.cursor b) bs ≡ true)
 way-law c bs b r h o e =
     let l = subst (λ (p : ℕ). leads_to none c.cursor p bs ≡ true) e (writeless c bs r o) in

@@ -102,7 +102,8 @@ first (suc (suc n)) a b h l = absurd (omega arith)
 
 -- either the first byte is a move that leaves n bytes, or three bytes are left and it is 1Bh
 pub first-byte : (n a b : ℕ) → dist a b ≡ suc n
-    → ((eqb (first_byte n a b) 0x1b ≡ false) × (any (eqb (first_byte n a b)) moves ≡ true) × (dist (move (first_byte n a b) a) b ≡ n))
+    → ((eqb (first_byte n a b) 0x1b ≡ false) × (any (eqb (first_byte n a b)) moves ≡ true)
+    × (dist (move (first_byte n a b) a) b ≡ n))
     ⊎ ((eqb (first_byte n a b) 0x1b ≡ true) × (n ≡ 2))
 unfolding first_byte leaves
 first-byte n a b h =

@@ -83,7 +83,8 @@ leaves_at : (n a b x : ℕ) → dist (move x a) b ≡ n → leaves n a b x ≡ t
 unfolding leaves
 leaves_at n a b x c = eq-eqb _ _ c
 
-smallest : (n a b : ℕ) (bs : List ℕ) → dist a b ≡ n → leads_to none a b bs ≡ true → length bs ≡ n → at_most (path_of n a b) bs ≡ true
+smallest : (n a b : ℕ) (bs : List ℕ) → dist a b ≡ n → leads_to none a b bs ≡ true → length bs ≡ n
+    → at_most (path_of n a b) bs ≡ true
 unfolding path_of leads_to first_byte
 smallest zero a b bs d h l = refl
 smallest (suc n) a b [] d h l = absurd (omega arith)

@@ -1,5 +1,6 @@
 -- The way: the move string with the fewest bytes from a place to another, of equals the smallest by first differing byte.
-use Rattle.std.specs.Prelude.{ℕ, zero, suc, ◌≤◌, ◌<◌, ◌≡◌, List, [], ◌∷◌, Bool, true, false, cond, ◌&&◌, ◌||◌, length, take, eqb, ltb, leb}
+use Rattle.std.specs.Prelude.{ℕ, zero, suc, ◌≤◌, ◌<◌, ◌≡◌, List, [], ◌∷◌, Bool, true, false, cond, ◌&&◌, ◌||◌, length, take, eqb}
+use Rattle.std.specs.Prelude.{ltb, leb}
 use Rattle.std.proofs.lemmas.List.Edits.{sets}
 use Rattle.moves.specs.Moves.{any, find, places, moves, move, dist}
 

@@ -1,6 +1,7 @@
 // The planner's moves: where 09h leads, the fewest move bytes between two places, and the way. These are worked out from the two
 // places: the way is the shortest of four kinds (specs/Kinds).
 #![tactic(auto)]
+
 ghost use Rattle.std.specs.Prelude.{◌≡◌};
 ghost use Rattle.moves.specs.Moves.{next, Fewest};
 ghost use Rattle.moves.specs.Ways.{PutsWay};

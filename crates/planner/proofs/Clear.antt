@@ -48,7 +48,8 @@ module _ (from : Condition → List ℕ) (c : Condition) where
       (λ e. rw (either-no e) (ltb-false (length (plan_by from true c)) (length (from c)) (rw u at e)))
 
   -- its length, by those of the two
-  either-length : length (either_by from c) ≡ cond (clear_wins from c) (length (plan_by from true c)) (length (plan_by from false c))
+  either-length : length (either_by from c) ≡ cond (clear_wins from c) (length (plan_by from true c))
+      (length (plan_by from false c))
   either-length = by_cases (clear_wins from c) (λ e. rw (either-yes e, e)) (λ e. rw (either-no e, e))
 
   -- where they are counted: n without the clear, k with it
@@ -88,7 +89,8 @@ module _ (c : Condition) (r : Ready c) where
   cleared-ready = record { one = r.one; still = refl; inside = r.inside; whole = r.whole }
 
   -- the picture is the same from the cleared condition
-  cleared-picture : (wanted gs : List ℕ) (asked f : ℕ) → pictured_in (clear_of c) wanted gs asked f ≡ pictured_in c wanted gs asked f
+  cleared-picture : (wanted gs : List ℕ) (asked f : ℕ)
+      → pictured_in (clear_of c) wanted gs asked f ≡ pictured_in c wanted gs asked f
   unfolding clear_of
   cleared-picture wanted gs asked f = λ i. with_scrolling (pictured_in c wanted gs asked f) (sym r.still i)
 

@@ -42,7 +42,8 @@ pub unflagged : (w : ℕ → Bool) (n i : ℕ) → flagged w n i ≡ [] → (j :
 unfolding flagged
 unflagged w zero i e j l k = absurd (omega arith)
 unflagged w (suc n) i e j l k =
-    by_cases (w i) (λ y. let z : suc (length (flagged w n (suc i))) ≡ 0 = ap length (sym (flagged-yes w n i y) ∙ e) in absurd (omega arith))
+    by_cases (w i) (λ y. let z : suc (length (flagged w n (suc i))) ≡ 0 = ap length (sym (flagged-yes w n i y) ∙ e) in absurd
+    (omega arith))
     (λ y. by_equal j i (λ q. rw q y) (λ q. unflagged w n (suc i) (rw y at e) j (omega arith) (omega arith)))
 
 pub flagged-length : (w : ℕ → Bool) (n i : ℕ) → length (flagged w n i) ≤ n

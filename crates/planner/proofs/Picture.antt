@@ -44,7 +44,8 @@ module _ (font : ℕ → ℕ) (ws cs fs : List ℕ) where
 
   wrong-other : (p b f j : ℕ) → j ≢ p → wrong_in font ws (set cs p b) (set fs p f) j ≡ wrong_in font ws cs fs j
   unfolding wrong_in
-  wrong-other p b f j h = λ i. wrong_cell (get_or-set_other cs p j b 0 h i) (get_or-set_other fs p j f 0 h i) (get_or ws j 0) (font j)
+  wrong-other p b f j h = λ i. wrong_cell (get_or-set_other cs p j b 0 h i) (get_or-set_other fs p j f 0 h i) (get_or ws j 0)
+      (font j)
 
 up : (P : ℕ → Type 0) (i : ℕ) → ((j : ℕ) → j < i → P j) → P i → (j : ℕ) → j < suc i → P j
 up P i h z j l = by_equal j i (λ e. subst P (sym e) z) (λ n. h j (omega (arith, n)))

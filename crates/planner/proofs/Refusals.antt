@@ -28,7 +28,8 @@ use Rattle.planner.specs.Plan.{at_start, pictured, Delivers}
 use Rattle.planner.specs.Fonts.{FontsDelivers}
 use Rattle.planner.specs.Clear.{either_plan, either_fonts_plan}
 use Rattle.planner.specs.Given.{Given}
-use Rattle.planner.specs.Answer.{on_move, on_switch, lacks, some_lacks, refusal_by, plan_refusal, fonts_refusal, bytes_by, Promise, Counts}
+use Rattle.planner.specs.Answer.{on_move, on_switch, lacks, some_lacks, refusal_by, plan_refusal, fonts_refusal, bytes_by, Promise}
+use Rattle.planner.specs.Answer.{Counts}
 use Rattle.planner.proofs.Serving.{Plannable, Switchable}
 use Rattle.planner.proofs.Demand.{either-delivers, either-fonts-deliver}
 
@@ -106,7 +107,8 @@ shows c w e =
     by_cases (is_user c.users w) (λ h. user-char c w h)
     (λ h. by_cases (ltb w 0x20) (λ l. clash refl (rw (l, h) at e)) (λ l. plain-char c w (ltb-false w 0x20 l)))
 
-all-show : (c : Condition) (ws : List ℕ) → some_lacks c.users ws ≡ false → (i : ℕ) → i < length ws → is_char c (get_or ws i 0) ≡ true
+all-show : (c : Condition) (ws : List ℕ) → some_lacks c.users ws ≡ false → (i : ℕ) → i < length ws
+    → is_char c (get_or ws i 0) ≡ true
 unfolding some_lacks
 all-show c [] e i h = absurd (omega arith)
 all-show c (w ∷ ws) e zero h = shows c w (neither (lacks c.users w) _ e).0

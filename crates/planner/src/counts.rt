@@ -70,12 +70,12 @@ pub(crate) fn count_either(c: Condition, wanted: &[u8], fonts: &[u8], asked: u8)
     requires { Given c wanted.now fonts.now asked }
     ensures { result ≡ length (either_fonts_plan c wanted.now fonts.now asked) }
 {
-    let u = c.users;
-    let bytes = u.bytes;
+    let users = c.users;
+    let bytes = users.bytes;
     let plain = count_plan(c, false, wanted, fonts, asked);
-    if is_user(&bytes, u.count, 0x0e) {
+    if is_user(&bytes, users.count, 0x0e) {
         return plain;
     }
-    let cleared = count_plan(c, true, wanted, fonts, asked);
-    if cleared < plain { cleared } else { plain }
+    let least = count_plan(c, true, wanted, fonts, asked);
+    if least < plain { least } else { plain }
 }

@@ -1,5 +1,6 @@
 // The planners: the bytes that give a picture and a cursor, in one font or in two.
 #![tactic(auto)]
+
 ghost use Rattle.std.specs.Prelude.{◌≡◌};
 ghost use Rattle.planner.specs.Answer.{plan_refusal, Plans, PlansFonts, Counts};
 

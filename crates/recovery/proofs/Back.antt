@@ -14,7 +14,8 @@ use Rattle.condition.specs.declared.Condition.{Condition}
 use Rattle.condition.specs.declared.Pending.{Pending}
 use Rattle.condition.specs.declared.Pending.TheVariants.{Nothing, Escape, Position, Luminance, Speed, UserCode, UserData}
 use Rattle.condition.specs.Condition.{well_formed, power_up}
-use Rattle.condition.specs.Bytes.{is_char, write_of, control_of, escape_of, position_of, luminance_of, speed_of, data_of, step_at, step_of}
+use Rattle.condition.specs.Bytes.{is_char, write_of, control_of, escape_of, position_of, luminance_of, speed_of, data_of, step_at}
+use Rattle.condition.specs.Bytes.{step_of}
 use Rattle.condition.specs.Bytes.{run_of}
 use Rattle.condition.proofs.Characters.{escaped}
 use Rattle.condition.proofs.Aside.{write-aside, run-link}

@@ -1,5 +1,6 @@
 // The bytes that bring a module back to power-up, whatever half a command it has; and when no bytes at all do.
 #![tactic(auto)]
+
 ghost use Rattle.std.specs.Prelude.{◌≡◌};
 ghost use Rattle.recovery.specs.Recovery.{makes_escape, lost, recover_refusal, Recovers};
 

@@ -1,6 +1,7 @@
 -- A reel of pictures (document 02, W5): up to 64 pictures in turn, each with its asked cursor, from one start condition into one
 -- output buffer. One-font planner only.
-use Rattle.std.specs.Prelude.{ℕ, suc, ◌-◌, ◌*◌, ◌≡◌, Bool, false, cond, not, ◌&&◌, length, get_or, take, drop, replicate, eqb, ltb, leb}
+use Rattle.std.specs.Prelude.{ℕ, suc, ◌-◌, ◌*◌, ◌≡◌, Bool, false, cond, not, ◌&&◌, length, get_or, take, drop, replicate, eqb, ltb}
+use Rattle.std.specs.Prelude.{leb}
 use mathlib.Core.List.{List, [], ◌∷◌, ◌++◌, map, flatten}
 use Rattle.condition.specs.declared.Condition.{Condition}
 use Rattle.condition.specs.Condition.{well_formed}

@@ -1,5 +1,6 @@
 // A reel: pictures in turn, each planned from where the one before leaves the module.
 #![tactic(auto)]
+
 ghost use Rattle.std.specs.Prelude.{◌≡◌, ◌+◌, ◌*◌, ◌≤◌, ◌<◌, length, take, drop};
 ghost use mathlib.Core.List.{flatten};
 ghost use Rattle.planner.specs.Plan.{at_start, pictured};

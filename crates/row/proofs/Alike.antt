@@ -37,7 +37,8 @@ other_length (x ∷ xs) (y ∷ ys) h = rw (other_length xs ys (λ e. h (ap suc e
 
 -- a byte more is looked at, t being the answer of those before it
 pub same_turn : (x y : List ℕ) (i : ℕ) (t : Bool) → i < length x → i < length y
-    → (t && eqb (get_or x i 0) (get_or y i 0) && same_bytes (drop (i + 1) x) (drop (i + 1) y)) ≡ (t && same_bytes (drop i x) (drop i y))
+    → (t && eqb (get_or x i 0) (get_or y i 0) && same_bytes (drop (i + 1) x) (drop (i + 1) y)) ≡
+    (t && same_bytes (drop i x) (drop i y))
 unfolding same_bytes
 same_turn x y i t h l = rw (add-one i, drop-cons x i 0 h, drop-cons y i 0 l) (and_assoc t _ _)
 

@@ -35,7 +35,8 @@ pub up-to-set : (n : ℕ) (l : List ℕ) (i x : ℕ) → all_up_to n l ≡ true 
 unfolding all_up_to
 up-to-set n [] i x h e = refl
 up-to-set n (y ∷ l) zero x h e = rw (le-leb x n e) (both (leb y n) (all_up_to n l) h).1
-up-to-set n (y ∷ l) (suc i) x h e = rw (both (leb y n) (all_up_to n l) h).0 (up-to-set n l i x (both (leb y n) (all_up_to n l) h).1 e)
+up-to-set n (y ∷ l) (suc i) x h e = rw (both (leb y n) (all_up_to n l) h).0
+    (up-to-set n l i x (both (leb y n) (all_up_to n l) h).1 e)
 
 pub up-to-append : (n : ℕ) (a b : List ℕ) → all_up_to n a ≡ true → all_up_to n b ≡ true → all_up_to n (a ++ b) ≡ true
 unfolding all_up_to
@@ -64,7 +65,8 @@ up-to-replicate n zero x h = refl
 up-to-replicate n (suc k) x h = rw (le-leb x n h) (up-to-replicate n k x h)
 
 -- each element changed by a rule that keeps it so
-pub map-up-to : (n : ℕ) (f : ℕ → ℕ) → ((x : ℕ) → x ≤ n → f x ≤ n) → (l : List ℕ) → all_up_to n l ≡ true → all_up_to n (map f l) ≡ true
+pub map-up-to : (n : ℕ) (f : ℕ → ℕ) → ((x : ℕ) → x ≤ n → f x ≤ n) → (l : List ℕ) → all_up_to n l ≡ true
+    → all_up_to n (map f l) ≡ true
 unfolding all_up_to
 map-up-to n f h [] e = refl
 map-up-to n f h (x ∷ l) e =

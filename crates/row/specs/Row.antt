@@ -1,6 +1,7 @@
 -- Pictures of two lines of 20 places (document 01, The condition; document 02, W8: of both devices), what moves whole rows,
 -- whether one is in range, and whether two are the same.
-use Rattle.std.specs.Prelude.{ℕ, ◌+◌, ◌-◌, List, [], ◌∷◌, ◌++◌, Bool, true, false, cond, ◌&&◌, length, take, drop, replicate, eqb, ltb, leb}
+use Rattle.std.specs.Prelude.{ℕ, ◌+◌, ◌-◌, List, [], ◌∷◌, ◌++◌, Bool, true, false, cond, ◌&&◌, length, take, drop, replicate, eqb}
+use Rattle.std.specs.Prelude.{ltb, leb}
 
 -- column 0 of the line of a place
 unfoldable pub line_start : ℕ → ℕ

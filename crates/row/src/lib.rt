@@ -2,6 +2,7 @@
 // What moves whole rows stands here once, for codes, for fonts or marks, and for the bytes of user characters, of both devices;
 // whether a row is in range, and whether two are the same.
 #![tactic(auto)]
+
 ghost use Rattle.std.specs.Prelude.{◌≡◌, ◌+◌, ◌-◌, ◌≤◌, min, length, take, drop, set, replicate, ◌++◌};
 ghost use Rattle.std.proofs.Math.Seq.{paste};
 ghost use Rattle.row.specs.Row.{line_start, scrolled, shifted, cleared_line, on_picture, advanced, laid};

@@ -1,6 +1,7 @@
 -- What the C host program's calls answer and leave (document 01, Refusal numbers and their order): the same as reading the
 -- block, running or planning, and writing back.
-use Rattle.std.specs.Prelude.{ℕ, ◌+◌, ◌-◌, ◌*◌, ◌%◌, ◌/◌, ◌<◌, ◌≡◌, ◌↔◌, Bool, true, false, cond, not, ◌&&◌, length, get_or, take, drop, eqb, ltb, leb}
+use Rattle.std.specs.Prelude.{ℕ, ◌+◌, ◌-◌, ◌*◌, ◌%◌, ◌/◌, ◌<◌, ◌≡◌, ◌↔◌, Bool, true, false, cond, not, ◌&&◌, length, get_or, take}
+use Rattle.std.specs.Prelude.{drop, eqb, ltb, leb}
 use mathlib.Core.List.{List, [], ◌∷◌, ◌++◌, flatten}
 use Rattle.condition.specs.declared.Condition.{Condition}
 use Rattle.condition.specs.Condition.{power_up}
@@ -19,7 +20,8 @@ use Rattle.planner.specs.Clear.{either_plan, either_fonts_plan}
 use Rattle.planner.specs.Answer.{plan_refusal, fonts_refusal, out_by}
 use Rattle.reel.specs.declared.Stop.{Stop}
 use Rattle.reel.specs.declared.Reeled.{Reeled}
-use Rattle.reel.specs.Reel.{Picture, pictures_of, plans_of, naming64, matching, first_refused, whole_refusal, written_by, lengths_of}
+use Rattle.reel.specs.Reel.{Picture, pictures_of, plans_of, naming64, matching, first_refused, whole_refusal, written_by}
+use Rattle.reel.specs.Reel.{lengths_of}
 use Rattle.reel.specs.Reel.{reel_out, PicturesInTurn, Promise}
 use Rattle.vetting.specs.declared.Verdict.{Verdict}
 use Rattle.vetting.specs.declared.Verdict.TheVariants.{Refused, Byte, Cell, Cursor, Yes}
@@ -73,7 +75,8 @@ host_plan_refusal b codes cursor out =
 
 unfoldable pub host_fonts_refusal : List ℕ → List ℕ → List ℕ → ℕ → List ℕ → ℕ
 host_fonts_refusal b codes fonts cursor out =
-    host_refusal_by (eqb (length codes) 40 && eqb (length fonts) 40) b (fonts_refusal (condition_in b) codes fonts cursor (length out))
+    host_refusal_by (eqb (length codes) 40 && eqb (length fonts) 40) b
+        (fonts_refusal (condition_in b) codes fonts cursor (length out))
 
 -- The answer r of a plan, or of a recovery, which is its length or 256 plus the refusal, and what it leaves in the buffer, by its
 -- refusal number and its bytes: a refused one leaves it as it was, and an answer below 256 says that so many bytes stand at its
@@ -107,7 +110,8 @@ reel_stop_by long b codes cursors room =
 -- what a reel on a block promises, where 64 lengths are lent
 abbrev pub ReelsIn : List ℕ → List ℕ → List ℕ → List ℕ → List ℕ → Reeled → Type 0
 ReelsIn b codes cursors before after r =
-    Promise (reel_stop_by (matching codes cursors) b codes cursors (length before)) (condition_in b) (pictures_of codes cursors) before
+    Promise (reel_stop_by (matching codes cursors) b codes cursors (length before)) (condition_in b)
+        (pictures_of codes cursors) before
     after r
 
 -- the lengths that have to be right: codes 40 for each asked cursor, and 64 lengths

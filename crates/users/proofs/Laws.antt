@@ -12,7 +12,8 @@ use Rattle.laws.proofs.Tests.{by-test}
 use Rattle.users.specs.declared.Users.{Users}
 use Rattle.users.specs.declared.Found.{Found}
 use Rattle.users.specs.declared.Found.TheVariants.{Missing, At}
-use Rattle.users.specs.Users.{place_of, room_of, limit_of, found_in, users_in, in_room, leaving_by, leaving_of, without, with_youngest}
+use Rattle.users.specs.Users.{place_of, room_of, limit_of, found_in, users_in, in_room, leaving_by, leaving_of, without}
+use Rattle.users.specs.Users.{with_youngest}
 use Rattle.users.specs.Users.{define_of, define_in}
 
 pub place-below : (us : List ℕ) (code n k j : ℕ) → place_of us code n k ≡ At j → j < k + n

@@ -127,4 +127,5 @@ module _ (us : List ℕ) (k youngest : ℕ) (h : k ≤ youngest) (l : youngest *
       ∙ behind (older ++ younger) (replicate 6 0) i both-length m ∙ get_or-replicate 6 (i - youngest * 6) 0 0 (omega arith))
       (λ t. let g = ltb-false i (youngest * 6 + 6) t in
       behind (older ++ younger ++ replicate 6 0) (drop (youngest * 6 + 6) us) i kept-length (omega arith)
-      ∙ get_or-drop (youngest * 6 + 6) us (i - (youngest * 6 + 6)) 0 ∙ r (youngest * 6 + 6 + (i - (youngest * 6 + 6))) (omega arith))
+      ∙ get_or-drop (youngest * 6 + 6) us (i - (youngest * 6 + 6)) 0
+      ∙ r (youngest * 6 + 6 + (i - (youngest * 6 + 6))) (omega arith))

@@ -67,7 +67,8 @@ picture-yes [] true n e = (refl, refl)
 picture-yes [] false n e = clash e refl
 picture-yes (x ∷ xs) there n e = clash e refl
 
-module _ (c : Condition) (wanted : List ℕ) (asked : ℕ) (string : List ℕ) (s : Sized c) (ok : plan_refusal c wanted asked 44 ≡ 0) where
+module _ (c : Condition) (wanted : List ℕ) (asked : ℕ) (string : List ℕ) (s : Sized c)
+    (ok : plan_refusal c wanted asked 44 ≡ 0) where
   after : Sized (run_of c string)
   after = run-sized c string s
 
@@ -234,7 +235,8 @@ excess-most b wanted asked string (Yes excess) v =
 -- What decides a verdict -----------------------------------------------------------------------------------------------------------
 
 -- what is no block is refused by 1, whatever else is wrong
-pub no_block : (b wanted : List ℕ) (asked : ℕ) (string : List ℕ) → (length b ≡ 512 → ⊥) → block_verdict b wanted asked string ≡ Refused 1
+pub no_block : (b wanted : List ℕ) (asked : ℕ) (string : List ℕ) → (length b ≡ 512 → ⊥)
+    → block_verdict b wanted asked string ≡ Refused 1
 unfolding verdict_by block_refusal host_refusal_by read_refusal
 no_block b wanted asked string h =
     rw (ne_eqb (length b) 512 h) (by_cases (eqb (length wanted) 40) (λ e. rw e) (λ e. rw e))

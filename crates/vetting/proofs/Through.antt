@@ -36,8 +36,8 @@ use Rattle.vetting.specs.Vetting.{permitted, longest, stop_of, wrong_after, pict
 use Rattle.vetting.proofs.Stepping.{char_is, standing, goes_on, Went, Stuck, one_more, stopped}
 use Rattle.vetting.proofs.Stepping.{write-went, write-stuck, read-went, read-stuck}
 
--- The first i bytes of the string are whole steps, which lead to the place p and to these cells; no cell below lo is written any more.
--- So every longer beginning is permitted where the rest of it goes on from there
+-- The first i bytes of the string are whole steps, which lead to the place p and to these cells; no cell below lo is written any
+-- more. So every longer beginning is permitted where the rest of it goes on from there
 pub record Reached (c : Condition) (string : List ℕ) (i p lo : ℕ) (cs fs : List ℕ) : Type 0 where
   pub upto : i ≤ length string
   pub inside : p < 40
@@ -82,7 +82,8 @@ module _ {c : Condition} {string : List ℕ} {i p lo : ℕ} {cs fs : List ℕ} (
     unfolding longest
     longest-is zero l = omega arith
     longest-is (suc n) l =
-        by_equal i (suc n) (λ e. let t : permitted c (take (suc n) string) ≡ true = subst (λ (m : ℕ). permitted c (take m string) ≡ true) e so_far in rw t (sym e))
+        by_equal i (suc n) (λ e. let t : permitted c (take (suc n) string) ≡ true = subst
+            (λ (m : ℕ). permitted c (take m string) ≡ true) e so_far in rw t (sym e))
         (λ d. rw (no_longer (suc n) (omega arith)) (longest-is n (omega arith)))
 
     pub stops : (wanted : List ℕ) (asked : ℕ) → i < length string → Byte i ≡ judged_of c wanted asked string

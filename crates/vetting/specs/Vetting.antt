@@ -1,6 +1,7 @@
 -- Vetting other people's strings (document 02, W11): does this string use only the permitted steps in reading order, under one-font
 -- rules with the clear of W4, and give the wanted picture and cursor?
-use Rattle.std.specs.Prelude.{ℕ, zero, suc, ◌+◌, ◌-◌, ◌≡◌, ◌↔◌, Bool, true, false, cond, ◌&&◌, List, [], ◌∷◌, length, get_or, take, replicate, eqb, ltb, leb}
+use Rattle.std.specs.Prelude.{ℕ, zero, suc, ◌+◌, ◌-◌, ◌≡◌, ◌↔◌, Bool, true, false, cond, ◌&&◌, List, [], ◌∷◌, length, get_or, take}
+use Rattle.std.specs.Prelude.{replicate, eqb, ltb, leb}
 use Rattle.condition.specs.declared.Condition.{Condition}
 use Rattle.condition.specs.Bytes.{run_of}
 use Rattle.condition.specs.Steps.{either_start}
@@ -32,15 +33,16 @@ unfoldable pub longest : Condition → List ℕ → ℕ → ℕ
 longest c string zero = zero
 longest c string (suc n) = cond (permitted c (take (suc n) string)) (suc n) (longest c string n)
 
--- the earliest byte, counted from 0, at which it stops being permitted steps. Of a bad or cut jump this is its 1Bh: no beginning that
--- ends in a part of a jump is permitted
+-- the earliest byte, counted from 0, at which it stops being permitted steps. Of a bad or cut jump this is its 1Bh: no beginning
+-- that ends in a part of a jump is permitted
 abbrev pub stop_of : Condition → List ℕ → ℕ
 stop_of c string = longest c string (length string)
 
 -- the wrong cells after it, in rising order: a code differs, or a font is not the selected one (which no permitted step changes)
 unfoldable pub wrong_after : Condition → List ℕ → List ℕ → List ℕ
 wrong_after c wanted string =
-    flagged (λ i. wrong_cell (get_or (run_of c string).codes i 0) (get_or (run_of c string).fonts i 0) (get_or wanted i 0) c.font) 40 0
+    flagged (λ i. wrong_cell (get_or (run_of c string).codes i 0) (get_or (run_of c string).fonts i 0)
+        (get_or wanted i 0) c.font) 40 0
 
 -- by these cells: the lowest; where there is none, the cursor, where that is not as asked; else yes
 abbrev pub picture_verdict : List ℕ → Bool → ℕ → Verdict

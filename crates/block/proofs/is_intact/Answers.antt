@@ -1,7 +1,6 @@
 use native.Mathlib.Omega.{arith}
 use Rattle.block.specs.Reading.{intact}
 use Rattle.block.proofs.Sealing.{check-below}
-use borrow.Author.Rules.{rules}
 use Rattle.block.proofs.is_intact.Goals as goal
 
 pub overflow_cast-result-2 : goal.overflow_cast-result-2

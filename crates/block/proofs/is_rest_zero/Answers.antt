@@ -1,4 +1,3 @@
-use borrow.Author.Rules.{rules}
 use Rattle.block.proofs.is_rest_zero.Goals as goal
 
 pub returns : goal.returns

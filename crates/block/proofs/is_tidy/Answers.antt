@@ -1,5 +1,4 @@
 use Rattle.block.specs.Tidy.{tidy}
-use borrow.Author.Rules.{rules}
 use Rattle.block.proofs.is_tidy.Goals as goal
 
 pub returns : goal.returns

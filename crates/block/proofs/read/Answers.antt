@@ -1,6 +1,4 @@
-use borrow.Author.Tests.{not-true, not-false}
 use Rattle.block.proofs.Answers.{damaged-read, unformed, taken}
-use borrow.Author.Rules.{rules}
 use Rattle.block.proofs.read.Goals as goal
 
 pub returns-then-wrong-ne0 : goal.returns-then-wrong-ne0

@@ -1,5 +1,5 @@
 use mathlib.Core.Path.{◌≡◌, refl, sym, ◌∙◌}
-use Prim.Native.Nat.{ℕ, suc, ◌+◌, ◌*◌, ◌-◌, ◌<◌, ◌≤◌}
+use Prim.Native.Nat.{ℕ, suc, ◌+◌, ◌*◌, ◌<◌, ◌≤◌}
 use native.Mathlib.Nat.{mul-le-mul, add_assoc, add-zero}
 use native.Mathlib.Numerals.{add-one}
 use native.Mathlib.Omega.{arith}
@@ -28,20 +28,20 @@ pub loop-i-init : goal.loop-i-init
 loop-i-init c = (omega arith, omega arith, refl, omega arith)
 
 pub overflow_cast-sum : goal.overflow_cast-sum
-overflow_cast-sum c = omega (arith, c.shared_slice_known-1.given c.loop-i.i)
+overflow_cast-sum c = omega (arith, c.type_inv.s c.loop-i.i)
 
 pub overflow_mul-sum : goal.overflow_mul-sum
 overflow_mul-sum c =
     let l = c.loop-i in
     let b : ℕ = get_or c.args.s.now l.i 0 in
-    let below = product l.place b (omega arith) (c.shared_slice_known-1.given l.i).fits in
+    let below = product l.place b (omega arith) (omega (arith, c.type_inv.s l.i)) in
     omega arith
 
 pub overflow_add-sum : goal.overflow_add-sum
 overflow_add-sum c =
     let l = c.loop-i in
     let b : ℕ = get_or c.args.s.now l.i 0 in
-    let below = product l.place b (omega arith) (c.shared_slice_known-1.given l.i).fits in
+    let below = product l.place b (omega arith) (omega (arith, c.type_inv.s l.i)) in
     omega arith
 
 pub loop-i-preserved : goal.loop-i-preserved
@@ -49,7 +49,7 @@ loop-i-preserved c =
     let l = c.loop-i in
     let s = c.args.s.now in
     let b : ℕ = get_or s l.i 0 in
-    let below = product l.place b (omega arith) (c.shared_slice_known-1.given l.i).fits in
+    let below = product l.place b (omega arith) (omega (arith, c.type_inv.s l.i)) in
     let inside : l.i < length s = omega arith in (
       turned s l.sum l.place l.i _ inside l.invariant.0,
       omega arith,

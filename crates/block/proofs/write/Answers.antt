@@ -1,5 +1,4 @@
 use mathlib.Core.Path.{sym, ◌∙◌}
-use borrow.Author.Tests.{not-true, not-false}
 use Rattle.condition.proofs.Good.{Sized}
 use Rattle.block.proofs.Sealing.{put-room}
 use Rattle.block.proofs.Answers.{not-formed, no_room, written}
@@ -18,5 +17,5 @@ returns-then-out-lt-LENGTH c = no_room _ _ (sym c.well_formed-2.ensures ∙ c.if
 
 pub returns : goal.returns
 returns c =
-    written _ _ _ (sized (goal.at.returns c).Start) (sym c.well_formed-2.ensures ∙ c.if-not-well_formed.false) c.if-out-lt-LENGTH.false
-    (c.put.ensures ∙ put-room _ _ c.if-out-lt-LENGTH.false)
+    written _ _ _ (sized (goal.at.returns c).Start) (sym c.well_formed-2.ensures ∙ c.if-not-well_formed.false)
+    c.if-out-lt-LENGTH.false (c.put.ensures ∙ put-room _ _ c.if-out-lt-LENGTH.false)

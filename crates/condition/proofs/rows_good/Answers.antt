@@ -1,5 +1,4 @@
 use borrow.Author.Tests.{eq-eqb, ne_eqb, le-leb, lt-leb}
-use borrow.Author.Rules.{rules}
 use mathlib.Core.Path.{◌≡◌}
 use Prim.Native.Nat.{◌/◌, min}
 use native.Mathlib.Omega.{arith}
@@ -19,12 +18,18 @@ returns-then-users-ne-BYTES c = rw (eq-eqb _ _ c.if-fonts-ne-CELLS.false, ne_eqb
 
 pub returns-then-held-ne-HELD : goal.returns-then-held-ne-HELD
 unfolding rows_good
-returns-then-held-ne-HELD c = rw (eq-eqb _ _ c.if-fonts-ne-CELLS.false, eq-eqb _ _ c.if-users-ne-BYTES.false, ne_eqb _ _ c.if-held-ne-HELD.true)
+returns-then-held-ne-HELD c = rw
+    (eq-eqb _ _ c.if-fonts-ne-CELLS.false, eq-eqb _ _ c.if-users-ne-BYTES.false, ne_eqb _ _ c.if-held-ne-HELD.true)
 
 pub returns-then-count-gt-MOST_USERS : goal.returns-then-count-gt-MOST_USERS
 unfolding rows_good
 returns-then-count-gt-MOST_USERS c =
-    rw (eq-eqb _ _ c.if-fonts-ne-CELLS.false, eq-eqb _ _ c.if-users-ne-BYTES.false, eq-eqb _ _ c.if-held-ne-HELD.false, lt-leb _ _ c.if-count-gt-MOST_USERS.true)
+    rw (
+      eq-eqb _ _ c.if-fonts-ne-CELLS.false,
+      eq-eqb _ _ c.if-users-ne-BYTES.false,
+      eq-eqb _ _ c.if-held-ne-HELD.false,
+      lt-leb _ _ c.if-count-gt-MOST_USERS.true,
+    )
 
 pub returns : goal.returns
 unfolding rows_good users_formed room_of

@@ -1,6 +1,5 @@
 use native.Mathlib.Omega.{arith}
 use Rattle.dots.proofs.Laws.{byte_past}
-use borrow.Author.Rules.{rules}
 use Rattle.dots.proofs.byte.Goals as goal
 
 pub returns-in_default : goal.returns-in_default

@@ -1,7 +1,6 @@
 use mathlib.Core.Logic.{inl, inr}
 use native.Mathlib.Omega.{arith}
 use Rattle.dots.proofs.Laws.{no-dot, dot-law}
-use borrow.Author.Rules.{rules}
 use Rattle.dots.proofs.dot.Goals as goal
 
 pub returns-then-k-lt1 : goal.returns-then-k-lt1

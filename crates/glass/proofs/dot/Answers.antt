@@ -1,7 +1,6 @@
 use Rattle.glass.specs.Answers.{dot_answer}
 use native.Mathlib.Omega.{arith}
 use borrow.Author.Tests.{le-leb, lt-leb}
-use borrow.Author.Rules.{rules}
 use Rattle.glass.proofs.dot.Goals as goal
 
 pub returns-then-k-lt1 : goal.returns-then-k-lt1

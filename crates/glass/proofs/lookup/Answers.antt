@@ -1,7 +1,5 @@
 use mathlib.Core.Path.{sym, ◌∙◌}
-use borrow.Author.Tests.{not-true, not-false}
 use Rattle.glass.specs.Answers.{lookup_of}
-use borrow.Author.Rules.{rules}
 use Rattle.glass.proofs.lookup.Goals as goal
 
 pub returns-then-not-well_formed : goal.returns-then-not-well_formed

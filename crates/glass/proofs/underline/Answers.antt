@@ -1,5 +1,4 @@
 use Rattle.glass.specs.Answers.{underline_answer}
-use borrow.Author.Rules.{rules}
 use Rattle.glass.proofs.underline.Goals as goal
 
 pub returns-in_default : goal.returns-in_default

@@ -1,10 +1,9 @@
 use Prim.Native.Nat.{◌<◌, ◌≤◌}
 use mathlib.Core.Path.{sym, ◌∙◌}
 use native.Mathlib.Omega.{arith}
-use borrow.Author.Tests.{not-true, not-false, le-leb, lt-leb}
+use borrow.Author.Tests.{le-leb, lt-leb}
 use Rattle.glass.specs.Shows.{shows_of}
 use Rattle.glass.specs.Answers.{view_answer}
-use borrow.Author.Rules.{rules}
 use Rattle.glass.proofs.view.Goals as goal
 
 pub returns-then-not-well_formed : goal.returns-then-not-well_formed

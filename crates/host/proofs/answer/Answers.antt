@@ -1,6 +1,5 @@
 use Rattle.host.specs.Host.{host_answer}
 use borrow.Author.Tests.{eq-eqb, ne_eqb}
-use borrow.Author.Rules.{rules}
 use Rattle.host.proofs.answer.Goals as goal
 
 pub returns-then-refusal-ne0 : goal.returns-then-refusal-ne0

@@ -1,7 +1,6 @@
 use mathlib.Core.Path.{ap, ◌∙◌}
 use Rattle.row.specs.Row.{same_bytes}
 use Rattle.index.specs.Index.{index_agrees}
-use borrow.Author.Rules.{rules}
 use Rattle.index.proofs.agrees.Goals as goal
 
 pub returns : goal.returns

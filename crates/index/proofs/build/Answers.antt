@@ -1,11 +1,10 @@
-use Prim.Native.Nat.{ℕ, ◌*◌, ◌≤◌}
+use Prim.Native.Nat.{ℕ}
 use mathlib.Core.Path.{ap, ◌∙◌}
 use native.Mathlib.Omega.{arith}
 use lib.ListN.{length, length-replicate}
-use borrow.Author.Rules.{rules}
 use Rattle.users.specs.Users.{limit_of}
 use Rattle.index.specs.Index.{index_of}
-use Rattle.index.proofs.Building.{Built, built-none, built-put, built-all}
+use Rattle.index.proofs.Building.{built-none, built-put, built-all}
 use Rattle.index.proofs.build.Goals as goal
 
 pub loop-k-init : goal.loop-k-init

@@ -1,11 +1,7 @@
-use Prim.Native.Nat.{ℕ, ◌*◌, ◌≤◌}
-use mathlib.Core.Path.{ap, ◌∙◌}
-use native.Mathlib.Omega.{arith}
-use lib.ListN.{length, length-replicate}
-use borrow.Author.Rules.{rules}
+use Prim.Native.Nat.{◌*◌, ◌≤◌}
+use lib.ListN.{length}
 use Rattle.users.specs.Users.{limit_of}
-use Rattle.index.specs.Index.{index_of}
-use Rattle.index.proofs.Building.{Built, built-none, built-put, built-all}
+use Rattle.index.proofs.Building.{Built}
 use Rattle.index.proofs.build.Given as goal
 
 abbrev pub invariant-loop-k : goal.invariant-loop-k

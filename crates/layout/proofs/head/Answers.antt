@@ -1,5 +1,4 @@
 use Rattle.layout.specs.Layout.{head_of}
-use borrow.Author.Rules.{rules}
 use Rattle.layout.proofs.head.Goals as goal
 
 pub returns : goal.returns

@@ -3,7 +3,6 @@ use Rattle.condition.specs.Condition.{well_formed}
 use native.Mathlib.Omega.{arith}
 use Rattle.condition.proofs.Kept.{power-up-good}
 use Rattle.layout.proofs.PackedBack.{enough, too_few}
-use borrow.Author.Rules.{rules}
 use Rattle.layout.proofs.is_formed.Goals as goal
 
 pub returns-then-s-lt-PACKED : goal.returns-then-s-lt-PACKED

@@ -21,15 +21,14 @@ pub returns : goal.returns
 returns c =
     let a = c.args in
     let s = a.s.now in
-    let x = c.copy.new.0 in
-    let y = c.copy-2.new.0 in
-    let z = c.copy-3.new.0 in
-    let v = c.copy-4.new.0 in
+    let x = c.copy.new.to in
+    let y = c.copy-2.new.to in
+    let z = c.copy-3.new.to in
+    let v = c.copy-4.new.to in
     let s₁ = x ++ drop 24 s in
     let s₂ = take 24 s₁ ++ (y ++ drop 40 (drop 24 s₁)) in
     let s₃ = take 64 s₂ ++ (z ++ drop 40 (drop 64 s₂)) in
     let s₄ = take 104 s₃ ++ (v ++ drop 96 (drop 104 s₃)) in
     four-parts s a.first.now a.codes.now a.fonts.now a.chars.now x y z v
-    c.requires c.copy-arg-2-1.given.0 c.copy-arg-4-1.given.0
-    c.copy-arg-6-1.given.0 c.copy-arg-8-1.given.0
+    c.requires (search rules) (search rules) (search rules) (search rules)
     s₁ s₂ s₃ s₄ c.copy.ensures refl c.copy-2.ensures refl c.copy-3.ensures refl c.copy-4.ensures refl

@@ -2,11 +2,10 @@ use mathlib.Core.Path.{refl}
 use native.Mathlib.Omega.{arith}
 use Rattle.condition.specs.Condition.{numbers_good, scroll_good}
 use Rattle.layout.specs.Layout.{condition_in}
-use borrow.Author.Rules.{rules}
 use Rattle.layout.proofs.numbers_in.Goals as goal
 
 pub overflow_cast-result : goal.overflow_cast-result
-overflow_cast-result c = omega (arith, (c.shared_slice_known-1.given 3).fits)
+overflow_cast-result c = omega (arith, c.type_inv.s 3)
 
 pub returns : goal.returns
 unfolding numbers_good scroll_good condition_in

@@ -1,5 +1,4 @@
 use Rattle.layout.specs.Layout.{packed_of}
-use borrow.Author.Rules.{rules}
 use Rattle.layout.proofs.packed.Goals as goal
 
 pub returns : goal.returns

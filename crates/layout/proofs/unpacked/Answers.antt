@@ -1,7 +1,6 @@
 use mathlib.Core.Path.{sym, ◌∙◌}
 use Rattle.condition.specs.Condition.{power_up_answer}
 use Rattle.layout.proofs.PackedBack.{enough, too_few}
-use borrow.Author.Rules.{rules}
 use Rattle.layout.proofs.unpacked.Goals as goal
 
 pub returns-then-s-lt-PACKED : goal.returns-then-s-lt-PACKED

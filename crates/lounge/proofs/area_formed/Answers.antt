@@ -1,7 +1,3 @@
-use borrow.Author.Rules.{rules}
-use Rattle.lounge.proofs.area_formed.Reads as reads
-use Rattle.lounge.proofs.area_formed.Lts as lts
-use Rattle.lounge.proofs.is_area.Reads as is-area-reads
 use Rattle.lounge.proofs.area_formed.Goals as goal
 
 pub returns-in-First : goal.returns-in-First

@@ -1,13 +1,9 @@
-use mathlib.Core.Path.{◌≡◌, refl, sym, ◌∙◌}
-use mathlib.Core.Logic.{inl, inr, ⊎_elim}
-use mathlib.Core.Bool.{◌&&◌}
-use Prim.Native.Nat.{◌-◌, ◌≤◌}
+use mathlib.Core.Path.{refl, sym, ◌∙◌}
+use mathlib.Core.Logic.{inl, inr}
 use native.Mathlib.Omega.{arith}
-use lib.Dec.{leb}
-use lib.ListN.{length, drop}
-use Rattle.lounge.specs.Run.{kinds_formed}
 use Rattle.lounge.proofs.Turns.{kinds-turn, kinds-ended}
 use Rattle.lounge.proofs.kinds_formed.Goals as goal
+use Rattle.lounge.proofs.kinds_formed.Goals.{then-most-pairs, else-most-pairs}
 
 pub loop-i-init : goal.loop-i-init
 loop-i-init c = (refl, omega arith)
@@ -17,8 +13,10 @@ loop-i-preserved c =
     let a = c.args in
     let l = c.loop-i in
     let more = kinds-turn a.pairs.now l.i l.most c.if-most-pairs.most (omega arith) in
-    ⊎_elim (λ w. (l.invariant.0 ∙ more (omega arith) (omega arith) (inr (omega arith)), omega arith))
-    (λ w. (l.invariant.0 ∙ more (omega arith) (omega arith) (inl (omega arith)), omega arith)) c.if-most-pairs.branch
+    elim c.if-most-pairs.branch [
+      | then-most-pairs w ↦ (l.invariant.0 ∙ more (omega arith) (omega arith) (inr (omega arith)), omega arith)
+      | else-most-pairs w ↦ (l.invariant.0 ∙ more (omega arith) (omega arith) (inl (omega arith)), omega arith)
+    ]
 
 pub returns : goal.returns
 returns c =

@@ -1,12 +1,9 @@
-use mathlib.Core.Path.{◌≡◌, refl, sym, ◌∙◌}
-use mathlib.Core.Logic.{inl, inr, ⊎_elim}
+use mathlib.Core.Path.{◌≡◌}
 use mathlib.Core.Bool.{◌&&◌}
 use Prim.Native.Nat.{◌-◌, ◌≤◌}
-use native.Mathlib.Omega.{arith}
 use lib.Dec.{leb}
 use lib.ListN.{length, drop}
 use Rattle.lounge.specs.Run.{kinds_formed}
-use Rattle.lounge.proofs.Turns.{kinds-turn, kinds-ended}
 use Rattle.lounge.proofs.kinds_formed.Given as goal
 
 abbrev pub invariant-loop-i : goal.invariant-loop-i

@@ -1,5 +1,4 @@
 use Rattle.lounge.specs.Shows.{level_of}
-use borrow.Author.Rules.{rules}
 use Rattle.lounge.proofs.level_of.Goals as goal
 
 pub returns-then-c-has_mark : goal.returns-then-c-has_mark

@@ -1,6 +1,5 @@
 use mathlib.Core.Path.{refl}
 use Rattle.lounge.specs.Condition.{numbers_formed}
-use borrow.Author.Rules.{rules}
 use Rattle.lounge.proofs.numbers_formed.Goals as goal
 
 pub returns : goal.returns

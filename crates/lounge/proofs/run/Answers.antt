@@ -3,7 +3,6 @@ use mathlib.Core.Bool.{Bool, true, ◌&&◌, and-false}
 use mathlib.Core.List.{List}
 use Prim.Native.Nat.{ℕ}
 use native.Mathlib.Omega.{arith}
-use borrow.Author.Tests.{not-true, not-false}
 use Rattle.lounge.specs.Condition.{well_formed}
 use Rattle.lounge.specs.Run.{kinds_formed}
 use Rattle.lounge.specs.Head.{lounge_in}
@@ -42,20 +41,28 @@ returns-then-not-kinds_formed c =
 
 pub returns-then-pairs-gt-MOST_PAIRS : goal.returns-then-pairs-gt-MOST_PAIRS
 returns-then-pairs-gt-MOST_PAIRS c =
-    too_many _ _ _ c.if-pairs-eq1.false (is-formed (goal.at.returns-then-pairs-gt-MOST_PAIRS c).Else-not-well_formed) (kinds (goal.at.returns-then-pairs-gt-MOST_PAIRS c).Else-not-kinds_formed)
+    let at = goal.at.returns-then-pairs-gt-MOST_PAIRS c in
+    too_many _ _ _ c.if-pairs-eq1.false (is-formed at.Else-not-well_formed) (kinds at.Else-not-kinds_formed)
     c.if-pairs-gt-MOST_PAIRS.true c.refused-then-pairs-gt-MOST_PAIRS.ensures
 
 pub run_in-requires : goal.run_in-requires
 run_in-requires c =
+    let at = goal.at.run_in-requires c in
     let e = c.if-pairs-eq1.false in
     let same = ap (λ (h : List ℕ). lounge_in h c.args.c.codes c.args.c.marks c.args.c.users)
     c.head-h.ensures
-    ∙ head-back c.args.c (sized (goal.at.run_in-requires c).Start).held-4 in
-    (search rules, search rules, search rules, search rules, ap well_formed same ∙ is-formed (goal.at.run_in-requires c).Else-not-well_formed, omega arith)
+    ∙ head-back c.args.c (sized at.Start).held-4 in (
+      search rules,
+      search rules,
+      search rules,
+      search rules,
+      ap well_formed same ∙ is-formed at.Else-not-well_formed,
+      omega arith,
+    )
 
 pub returns : goal.returns
 returns c =
-    accepted _ _ _ c.if-pairs-eq1.false (is-formed (goal.at.returns c).Else-not-well_formed) (kinds (goal.at.returns c).Else-not-kinds_formed)
-    c.if-pairs-gt-MOST_PAIRS.false
-    (sized (goal.at.returns c).Start)
-    (carried _ _ _ _ _ _ _ _ (sized (goal.at.returns c).Start) c.head-h.ensures c.run_in.ensures c.whole.ensures)
+    let at = goal.at.returns c in
+    let s = sized at.Start in
+    accepted _ _ _ c.if-pairs-eq1.false (is-formed at.Else-not-well_formed) (kinds at.Else-not-kinds_formed)
+    c.if-pairs-gt-MOST_PAIRS.false s (carried _ _ _ _ _ _ _ _ s c.head-h.ensures c.run_in.ensures c.whole.ensures)

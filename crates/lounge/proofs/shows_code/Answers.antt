@@ -4,7 +4,6 @@ use Rattle.users.specs.Users.{is_user}
 use Rattle.lounge.specs.Condition.{users_of}
 use Rattle.lounge.specs.Shows.{shows_of}
 use borrow.Author.Tests.{le-ltb, lt-ltb}
-use borrow.Author.Rules.{rules}
 use Rattle.lounge.proofs.shows_code.Goals as goal
 use Rattle.lounge.proofs.shows_code.Goals.{After-is_found}
 
@@ -20,7 +19,8 @@ returns-then-is_found c = rw (user (goal.at.returns-then-is_found c).After-is_fo
 
 pub returns-then-code-lt32 : goal.returns-then-code-lt32
 unfolding shows_of
-returns-then-code-lt32 c = rw (user (goal.at.returns-then-code-lt32 c).After-is_found c.if-is_found.false, lt-ltb _ _ c.if-code-lt32.true)
+returns-then-code-lt32 c =
+    rw (user (goal.at.returns-then-code-lt32 c).After-is_found c.if-is_found.false, lt-ltb _ _ c.if-code-lt32.true)
 
 pub returns : goal.returns
 unfolding shows_of

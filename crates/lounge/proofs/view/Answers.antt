@@ -5,10 +5,8 @@ use Rattle.lounge.specs.Condition.{well_formed}
 use mathlib.Core.Path.{sym}
 use mathlib.Core.Bool.{and-false}
 use native.Mathlib.Omega.{arith}
-use borrow.Author.Tests.{not-true, not-false}
 use Rattle.lounge.specs.Shows.{view_answer, seen_of}
 use borrow.Author.Tests.{le-leb, lt-leb}
-use borrow.Author.Rules.{rules}
 use Rattle.lounge.proofs.view.Goals as goal
 
 pub returns-then-not-well_formed : goal.returns-then-not-well_formed

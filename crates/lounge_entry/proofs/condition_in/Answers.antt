@@ -1,6 +1,5 @@
 use mathlib.Core.Path.{refl, ◌∙◌}
 use Rattle.row.proofs.Laws.{filled}
-use borrow.Author.Rules.{rules}
 use Rattle.lounge_entry.proofs.condition_in.Goals as goal
 
 pub returns : goal.returns

@@ -1,7 +1,5 @@
 use mathlib.Core.Path.{sym, ◌∙◌}
-use borrow.Author.Tests.{not-true, not-false}
 use Rattle.lounge_entry.proofs.Answers.{sizes, wrong-sizes, not-run, is-run}
-use borrow.Author.Rules.{rules}
 use Rattle.lounge_entry.proofs.lounge_run.Goals as goal
 
 pub returns-then-not-sizes_right : goal.returns-then-not-sizes_right

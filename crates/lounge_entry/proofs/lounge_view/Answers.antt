@@ -1,8 +1,6 @@
 use mathlib.Core.Path.{sym, ◌∙◌}
-use borrow.Author.Tests.{not-true, not-false}
 use Rattle.lounge_entry.specs.Entry.{view_number}
 use Rattle.lounge_entry.proofs.Answers.{sizes}
-use borrow.Author.Rules.{rules}
 use Rattle.lounge_entry.proofs.lounge_view.Goals as goal
 
 pub returns-then-not-sizes_right : goal.returns-then-not-sizes_right

@@ -1,6 +1,5 @@
 use Rattle.lounge_entry.specs.Entry.{seen_number}
 use borrow.Author.Tests.{eq-eqb, ne_eqb}
-use borrow.Author.Rules.{rules}
 use Rattle.lounge_entry.proofs.seen_number.Goals as goal
 
 pub returns-then-s-ne0 : goal.returns-then-s-ne0

@@ -1,6 +1,5 @@
 use borrow.Author.Tests.{lt-ltb, le-ltb}
 use Rattle.moves.specs.Moves.{next}
-use borrow.Author.Rules.{rules}
 use Rattle.moves.proofs.next.Goals as goal
 
 pub returns-then-p-lt-LAST_PLACE : goal.returns-then-p-lt-LAST_PLACE

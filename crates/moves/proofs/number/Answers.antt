@@ -1,7 +1,6 @@
 use native.Mathlib.Omega.{arith}
 use mathlib.Core.Path.{sym, ◌∙◌}
 use Rattle.moves.proofs.Rule.{fewest, fewest-is, fewest-self, fewest-next, fewest-none-from, fewest-none-to}
-use borrow.Author.Rules.{rules}
 use Rattle.moves.proofs.number.Goals as goal
 
 pub returns-then-from-to : goal.returns-then-from-to

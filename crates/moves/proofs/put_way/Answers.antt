@@ -1,7 +1,6 @@
 use mathlib.Core.Path.{sym, ◌∙◌}
 use Rattle.moves.proofs.Rule.{fewest-places, fewest-length}
 use Rattle.moves.proofs.Put.{put_as, no_way, way-path, way-put}
-use borrow.Author.Rules.{rules}
 use Rattle.moves.proofs.put_way.Goals as goal
 
 pub returns-then-n-eq0 : goal.returns-then-n-eq0

@@ -1,8 +1,6 @@
-use mathlib.Core.Path.{◌≡◌, sym, ap, ◌∙◌}
+use mathlib.Core.Path.{sym, ◌∙◌}
 use native.Mathlib.Omega.{arith}
-use lib.ListN.{length}
-use borrow.Author.Rules.{rules}
-use borrow.Author.Tests.{ne_eqb, eq-eqb}
+use borrow.Author.Tests.{ne_eqb}
 use Rattle.planner.specs.Answer.{bytes_by}
 use Rattle.planner.proofs.Demand.{either-one-font}
 use Rattle.planner.proofs.Refusals.{accepted, plan-given}

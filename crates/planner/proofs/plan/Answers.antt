@@ -55,13 +55,26 @@ pub overflow_cast-asked : goal.overflow_cast-asked
 overflow_cast-asked c = omega (arith, (accepts (goal.at.overflow_cast-asked c).Else-n-ne0).0.asked-40)
 
 pub put_either-k-requires : goal.put_either-k-requires
-put_either-k-requires c =
-    (plan-given _ _ _ (accepts (goal.at.put_either-k-requires c).Else-n-ne0).0, omega (arith, ap length (same (goal.at.put_either-k-requires c).Else-n-ne0), (delivered (goal.at.put_either-k-requires c).Else-n-ne0).most, (accepts (goal.at.put_either-k-requires c).Else-n-ne0).1))
+put_either-k-requires c = (
+  plan-given _ _ _ (accepts (goal.at.put_either-k-requires c).Else-n-ne0).0,
+  omega (
+    arith,
+    ap length (same (goal.at.put_either-k-requires c).Else-n-ne0),
+    (delivered (goal.at.put_either-k-requires c).Else-n-ne0).most,
+    (accepts (goal.at.put_either-k-requires c).Else-n-ne0).1,
+  ),
+)
 
 pub overflow_cast-result : goal.overflow_cast-result
 overflow_cast-result c =
-    omega (arith, c.put_either-k.ensures.0, ap length (same (goal.at.overflow_cast-result c).Else-n-ne0), (delivered (goal.at.overflow_cast-result c).Else-n-ne0).most)
+    omega (
+      arith,
+      c.put_either-k.ensures.0,
+      ap length (same (goal.at.overflow_cast-result c).Else-n-ne0),
+      (delivered (goal.at.overflow_cast-result c).Else-n-ne0).most,
+    )
 
 pub returns : goal.returns
 returns c =
-    taken-on _ _ _ _ _ _ (unrefused (goal.at.returns c).Else-n-ne0) (delivered (goal.at.returns c).Else-n-ne0) (put_same _ _ _ _ _ c.put_either-k.ensures (same (goal.at.returns c).Else-n-ne0))
+    taken-on _ _ _ _ _ _ (unrefused (goal.at.returns c).Else-n-ne0) (delivered (goal.at.returns c).Else-n-ne0)
+    (put_same _ _ _ _ _ c.put_either-k.ensures (same (goal.at.returns c).Else-n-ne0))

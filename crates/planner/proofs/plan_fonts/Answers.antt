@@ -46,8 +46,14 @@ pub overflow_cast-asked : goal.overflow_cast-asked
 overflow_cast-asked c = omega (arith, (accepts c).0.codes.asked-40)
 
 pub put_either-k-requires : goal.put_either-k-requires
-put_either-k-requires c =
-    (fonts-given _ _ _ _ (accepts (goal.at.put_either-k-requires c).Else-n-ne0).0, omega (arith, (delivered (goal.at.put_either-k-requires c).Else-n-ne0).most, (accepts (goal.at.put_either-k-requires c).Else-n-ne0).1))
+put_either-k-requires c = (
+  fonts-given _ _ _ _ (accepts (goal.at.put_either-k-requires c).Else-n-ne0).0,
+  omega (
+    arith,
+    (delivered (goal.at.put_either-k-requires c).Else-n-ne0).most,
+    (accepts (goal.at.put_either-k-requires c).Else-n-ne0).1,
+  ),
+)
 
 pub overflow_cast-result : goal.overflow_cast-result
 overflow_cast-result c =
@@ -55,4 +61,5 @@ overflow_cast-result c =
 
 pub returns : goal.returns
 returns c =
-    taken-on _ _ _ _ _ _ (unrefused (goal.at.returns c).Else-n-ne0) (delivered (goal.at.returns c).Else-n-ne0) c.put_either-k.ensures
+    taken-on _ _ _ _ _ _ (unrefused (goal.at.returns c).Else-n-ne0)
+    (delivered (goal.at.returns c).Else-n-ne0) c.put_either-k.ensures

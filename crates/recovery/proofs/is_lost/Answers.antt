@@ -1,4 +1,3 @@
-use borrow.Author.Rules.{rules}
 use Rattle.laws.proofs.Tests.{by_cases}
 use Rattle.users.specs.Users.{is_user}
 use Rattle.recovery.specs.Recovery.{makes_escape, lost}

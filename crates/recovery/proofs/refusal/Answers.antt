@@ -1,6 +1,5 @@
 use native.Mathlib.Omega.{arith}
 use borrow.Author.Tests.{not-true, not-false, lt-ltb, le-ltb}
-use borrow.Author.Rules.{rules}
 use Rattle.recovery.specs.Recovery.{recover_refusal}
 use Rattle.recovery.proofs.refusal.Goals as goal
 

@@ -1,10 +1,7 @@
-use mathlib.Core.Path.{◌≡◌, sym, ◌∙◌}
-use Prim.Native.Nat.{◌-◌, ◌≤◌}
+use mathlib.Core.Path.{sym, ◌∙◌}
 use native.Mathlib.Omega.{arith}
-use lib.ListN.{length, drop}
 use borrow.Author.Rules.{rules}
-use Rattle.reel.specs.Reel.{pictures_of, first_refused}
-use Rattle.reel.proofs.Turns.{first_from, from_start, goes-on, stops, none-stops}
+use Rattle.reel.proofs.Turns.{from_start, goes-on, stops, none-stops}
 use Rattle.reel.proofs.first_refused.Goals as goal
 
 pub loop-k-init : goal.loop-k-init
@@ -14,12 +11,11 @@ loop-k-init c = (
 )
 
 pub loop-k-preserved : goal.loop-k-preserved
-loop-k-preserved c =
-    (
-      search rules,
-      c.loop-k.invariant.1
-          ∙ goes-on _ _ _ _ _ c.loop-k-test.true _ c.codes_of-wanted.ensures c.refusal-n.ensures c.if-n-ne0.false,
-    )
+loop-k-preserved c = (
+  search rules,
+  c.loop-k.invariant.1
+      ∙ goes-on _ _ _ _ _ c.loop-k-test.true _ c.codes_of-wanted.ensures c.refusal-n.ensures c.if-n-ne0.false,
+)
 
 pub returns-then-n-ne0 : goal.returns-then-n-ne0
 returns-then-n-ne0 c =

@@ -1,9 +1,6 @@
-use Prim.Native.Nat.{◌-◌}
 use mathlib.Core.Path.{refl}
 use native.Mathlib.Omega.{arith}
-use lib.ListN.{length}
-use borrow.Author.Rules.{rules}
-use Rattle.reel.proofs.Putting.{Putting, put-start, wanted-40, plan-most, put-turn, put-end, same-long, at-inside}
+use Rattle.reel.proofs.Putting.{put-start, wanted-40, plan-most, put-turn, put-end, same-long, at-inside}
 use Rattle.reel.proofs.put_plans.Goals as goal
 
 pub loop-k-init : goal.loop-k-init

@@ -1,9 +1,6 @@
 use Prim.Native.Nat.{◌-◌}
-use mathlib.Core.Path.{refl}
-use native.Mathlib.Omega.{arith}
 use lib.ListN.{length}
-use borrow.Author.Rules.{rules}
-use Rattle.reel.proofs.Putting.{Putting, put-start, wanted-40, plan-most, put-turn, put-end, same-long, at-inside}
+use Rattle.reel.proofs.Putting.{Putting}
 use Rattle.reel.proofs.put_plans.Given as goal
 
 abbrev pub invariant-loop-k : goal.invariant-loop-k

@@ -1,5 +1,4 @@
 use mathlib.Core.Path.{◌∙◌}
-use borrow.Author.Rules.{rules}
 use Rattle.reel.proofs.Turns.{whole-stops, whole-passes, whole-given}
 use Rattle.reel.proofs.stop_at.Goals as goal
 

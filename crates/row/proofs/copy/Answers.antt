@@ -1,8 +1,5 @@
-use Prim.Native.Nat.{◌≤◌, ◌-◌, min}
-use mathlib.Core.Path.{◌≡◌, refl, ◌∙◌}
+use mathlib.Core.Path.{refl, ◌∙◌}
 use native.Mathlib.Omega.{arith}
-use mathlib.Core.List.{◌++◌}
-use lib.ListN.{length, take, drop}
 use Rattle.row.proofs.Laws.{copy-turn, laid-law}
 use borrow.Author.Rules.{rules}
 use Rattle.row.proofs.copy.Goals as goal

@@ -1,5 +1,4 @@
 use lib.Seq.{set_out}
-use borrow.Author.Rules.{rules}
 use mathlib.Core.Path.{sym}
 use Rattle.row.proofs.put.Goals as goal
 

@@ -1,10 +1,8 @@
-use mathlib.Core.Path.{◌≡◌, refl, sym, ◌∙◌}
+use mathlib.Core.Path.{◌≡◌}
 use mathlib.Core.Bool.{◌&&◌}
 use Prim.Native.Nat.{◌-◌, ◌≤◌}
-use native.Mathlib.Omega.{arith}
 use lib.ListN.{length, drop}
 use Rattle.row.specs.Row.{same_bytes}
-use Rattle.row.proofs.Alike.{other_length, same_turn, same_ended}
 use Rattle.row.proofs.same.Given as goal
 
 abbrev pub invariant-loop-i : goal.invariant-loop-i

@@ -1,8 +1,8 @@
 use mathlib.Core.Path.{◌≡◌, sym, ◌∙◌}
-use mathlib.Core.Logic.{◌⊎◌, inl, inr, ⊎_elim}
+use mathlib.Core.Logic.{◌⊎◌, inl, inr}
 use mathlib.Core.Bool.{◌&&◌, and-true}
 use mathlib.Core.List.{List}
-use Prim.Native.Nat.{ℕ, ◌+◌, ◌-◌, ◌<◌, ◌≤◌}
+use Prim.Native.Nat.{ℕ, ◌+◌, ◌<◌, ◌≤◌}
 use native.Mathlib.Numerals.{add-one}
 use native.Mathlib.Omega.{arith}
 use lib.Dec.{leb}
@@ -33,8 +33,8 @@ loop-i-preserved c =
     let l = c.loop-i in
     let more = turned a.n a.s.now l.i l.most c.if-most-s.most (omega arith) in
     elim c.if-most-s.branch [
-      then-most-s w ↦ (l.invariant.0 ∙ more (omega arith) (omega arith) (inr (omega arith)), omega arith)
-    | else-most-s w ↦ (l.invariant.0 ∙ more (omega arith) (omega arith) (inl (omega arith)), omega arith)
+      | then-most-s w ↦ (l.invariant.0 ∙ more (omega arith) (omega arith) (inr (omega arith)), omega arith)
+      | else-most-s w ↦ (l.invariant.0 ∙ more (omega arith) (omega arith) (inl (omega arith)), omega arith)
     ]
 
 pub returns : goal.returns

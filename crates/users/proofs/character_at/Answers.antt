@@ -1,6 +1,5 @@
 use Rattle.users.specs.Users.{character_at}
 use borrow.Author.Tests.{le-leb, lt-leb}
-use borrow.Author.Rules.{rules}
 use Rattle.users.proofs.character_at.Goals as goal
 
 pub returns-then-bytes-place : goal.returns-then-bytes-place

@@ -6,7 +6,6 @@ use Rattle.laws.proofs.Lists.{tail-part}
 use Rattle.row.specs.Row.{all_up_to}
 use Rattle.users.specs.Users.{held_formed}
 use native.Mathlib.Omega.{arith}
-use borrow.Author.Rules.{rules}
 use Rattle.users.proofs.held_formed.Goals as goal
 
 pub returns-then-n-gt-HELD : goal.returns-then-n-gt-HELD

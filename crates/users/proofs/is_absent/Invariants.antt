@@ -1,10 +1,7 @@
-use mathlib.Core.Path.{◌≡◌, refl, sym, ◌∙◌}
+use mathlib.Core.Path.{◌≡◌}
 use Prim.Native.Nat.{◌+◌, ◌*◌, ◌≤◌}
-use native.Mathlib.Omega.{arith}
 use lib.ListN.{length, drop}
-use borrow.Author.Tests.{eq-eqb, ne_eqb}
 use Rattle.users.specs.Users.{absent}
-use Rattle.users.proofs.Formed.{absent-step}
 use Rattle.users.proofs.is_absent.Given as goal
 
 abbrev pub invariant-loop-left : goal.invariant-loop-left

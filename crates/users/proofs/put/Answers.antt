@@ -2,7 +2,6 @@ use native.Mathlib.Omega.{arith}
 use native.Mathlib.Numerals.{unary_clauses}
 use lib.ListN.{length-set}
 use Rattle.users.specs.Users.{put_of}
-use borrow.Author.Rules.{rules}
 use Rattle.users.proofs.put.Goals as goal
 
 pub bounds-bytes-at-2 : goal.bounds-bytes-at-2

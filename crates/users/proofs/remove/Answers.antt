@@ -1,8 +1,6 @@
-use Prim.Native.Nat.{◌+◌, ◌-◌, ◌*◌, ◌≤◌}
+use Prim.Native.Nat.{◌+◌, ◌-◌, ◌*◌}
 use mathlib.Core.Path.{◌≡◌, refl, ◌∙◌}
 use native.Mathlib.Omega.{arith}
-use lib.ListN.{length}
-use Rattle.users.specs.Users.{removed}
 use Rattle.users.proofs.Removal.{remove-turn, remove-law}
 use borrow.Author.Rules.{rules}
 use Rattle.users.proofs.remove.Goals as goal

@@ -27,7 +27,8 @@ unfolding vet_refusal
 numbered c = c.refusal-n.ensures ∙ rw (ap (λ (p : Planned). p.refusal) c.count-plan.ensures)
 
 pub returns-then-n-ne0 : goal.returns-then-n-ne0
-returns-then-n-ne0 c = vet-refused _ _ _ _ (rows (goal.at.returns-then-n-ne0 c).Start) _ (numbered (goal.at.returns-then-n-ne0 c).After-refusal-n) c.if-n-ne0.true
+returns-then-n-ne0 c = vet-refused _ _ _ _ (rows (goal.at.returns-then-n-ne0 c).Start) _
+    (numbered (goal.at.returns-then-n-ne0 c).After-refusal-n) c.if-n-ne0.true
 
 pub overflow_cast-asked : goal.overflow_cast-asked
 overflow_cast-asked c =

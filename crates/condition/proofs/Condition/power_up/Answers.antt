@@ -1,6 +1,5 @@
 use Rattle.condition.specs.Condition.{power_up_answer}
 use borrow.Author.Tests.{le-leb, lt-leb}
-use borrow.Author.Rules.{rules}
 use Rattle.condition.proofs.Condition.power_up.Goals as goal
 
 pub returns-then-font : goal.returns-then-font

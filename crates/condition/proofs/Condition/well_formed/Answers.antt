@@ -16,4 +16,6 @@ unfolding well_formed
 returns c =
     rw (c.agrees.ensures, c.rows_good.ensures, c.scroll_good.ensures)
     (rw c.numbers_good.ensures
-    (ap (λ (t : Bool). t && index_good c.args.self) (rows-law c.args.self (sized (goal.at.returns c).Start).0 (sized (goal.at.returns c).Start).1 (sized (goal.at.returns c).Start).2)))
+    (ap (λ (t : Bool). t && index_good c.args.self)
+    (rows-law c.args.self (sized (goal.at.returns c).Start).0 (sized (goal.at.returns c).Start).1
+    (sized (goal.at.returns c).Start).2)))

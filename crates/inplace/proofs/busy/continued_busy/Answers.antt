@@ -3,6 +3,8 @@ use Rattle.inplace.proofs.InPlace.{pending-at}
 use Rattle.inplace.proofs.Branches.{awaits-data}
 use borrow.Author.Tests.{le-ltb, lt-ltb}
 use borrow.Author.Rules.{rules}
+use native.Mathlib.Omega.{arith}
+use lib.ListN.{get_or}
 use Rattle.inplace.proofs.busy.continued_busy.Goals as goal
 
 pub returns-in-1 : goal.returns-in-1
@@ -28,19 +30,19 @@ returns-in-5 c = rw (pending-at, c.in-5.is)
 pub returns-then-n-lt4 : goal.returns-then-n-lt4
 unfolding quick_at
 returns-then-n-lt4 c =
-    let r = c.in_default in
     rw (
       pending-at,
-      awaits-data _ _ _ (search rules) r.0.0.0.0.1 r.0.0.0.1 r.0.0.1 r.0.1 r.1,
+      awaits-data (get_or c.args.s.now 13 0) _ _ (search rules)
+          (λ z. omega arith) (λ z. omega arith) (λ z. omega arith) (λ z. omega arith) (λ z. omega arith),
       lt-ltb _ _ c.if-n-lt4.true,
     )
 
 pub returns-else-n-lt4 : goal.returns-else-n-lt4
 unfolding quick_at
 returns-else-n-lt4 c =
-    let r = c.in_default in
     rw (
       pending-at,
-      awaits-data _ _ _ (search rules) r.0.0.0.0.1 r.0.0.0.1 r.0.0.1 r.0.1 r.1,
+      awaits-data (get_or c.args.s.now 13 0) _ _ (search rules)
+          (λ z. omega arith) (λ z. omega arith) (λ z. omega arith) (λ z. omega arith) (λ z. omega arith),
       le-ltb _ _ c.if-n-lt4.false,
     )

@@ -1,7 +1,6 @@
 use Rattle.condition.specs.Busy.{control_busy}
 use Rattle.laws.proofs.Tests.{tests}
 use mathlib.Core.Path.{sym, ◌∙◌}
-use borrow.Author.Rules.{rules}
 use Rattle.inplace.proofs.busy.control_busy.Goals as goal
 
 pub returns-then-right_scrolls : goal.returns-then-right_scrolls

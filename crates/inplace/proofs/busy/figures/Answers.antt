@@ -1,5 +1,4 @@
 use borrow.Author.Tests.{eq-eqb, ne_eqb}
-use borrow.Author.Rules.{rules}
 use Rattle.inplace.proofs.busy.figures.Goals as goal
 
 pub returns-then-on-eq1 : goal.returns-then-on-eq1

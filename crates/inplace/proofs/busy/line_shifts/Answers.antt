@@ -4,7 +4,6 @@ use Rattle.condition.specs.Busy.{line_shifts}
 use mathlib.Core.Path.{sym, ◌∙◌}
 use Rattle.inplace.proofs.InPlace.{cursor-at, mode-at, scrolling-at}
 use borrow.Author.Tests.{eq-eqb, ne_eqb}
-use borrow.Author.Rules.{rules}
 use Rattle.inplace.proofs.busy.line_shifts.Goals as goal
 
 pub returns-then-below_19 : goal.returns-then-below_19

@@ -1,7 +1,6 @@
 use Rattle.condition.specs.Busy.{right_scrolls}
 use Rattle.inplace.proofs.InPlace.{cursor-at, mode-at}
 use borrow.Author.Tests.{eq-eqb, ne_eqb}
-use borrow.Author.Rules.{rules}
 use Rattle.inplace.proofs.busy.right_scrolls.Goals as goal
 
 pub returns-then-s-eq2 : goal.returns-then-s-eq2

@@ -1,6 +1,5 @@
 use Rattle.condition.specs.Busy.{write_busy}
 use mathlib.Core.Path.{sym, ◌∙◌}
-use borrow.Author.Rules.{rules}
 use Rattle.inplace.proofs.busy.write_busy.Goals as goal
 
 pub returns-then-right_scrolls : goal.returns-then-right_scrolls

@@ -7,4 +7,4 @@ use Rattle.inplace.proofs.cells.clear.Goals as goal
 pub returns : goal.returns
 unfolding clear_of
 returns c =
-    scrolling-in c.blank.new.0 0 (search rules) ∙ rw c.blank.ensures (simp font-at)
+    scrolling-in c.blank.new.s 0 (search rules) ∙ rw c.blank.ensures (simp font-at)

@@ -1,6 +1,8 @@
 use Rattle.inplace.proofs.InPlace.{pending-at}
 use Rattle.inplace.proofs.Branches.{awaits-data}
 use borrow.Author.Rules.{rules}
+use native.Mathlib.Omega.{arith}
+use lib.ListN.{get_or}
 use Rattle.inplace.proofs.characters.alters.Goals as goal
 
 pub returns-in-1 : goal.returns-in-1
@@ -20,8 +22,8 @@ returns-in-5 c = rw (pending-at, c.in-5.is)
 
 pub returns-in_default : goal.returns-in_default
 returns-in_default c =
-    let r = c.in_default in
     rw (
       pending-at,
-      awaits-data _ _ _ (search rules) r.0.0.0.0.1 r.0.0.0.1 r.0.0.1 r.0.1 r.1,
+      awaits-data (get_or c.args.s.now 13 0) _ _ (search rules)
+          (λ z. omega arith) (λ z. omega arith) (λ z. omega arith) (λ z. omega arith) (λ z. omega arith),
     )

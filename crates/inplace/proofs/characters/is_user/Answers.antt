@@ -1,7 +1,6 @@
 use Rattle.users.specs.Users.{is_user}
 use Rattle.layout.specs.Layout.{condition_in}
 use Rattle.inplace.proofs.Altering.{looked-up-in}
-use borrow.Author.Rules.{rules}
 use Rattle.inplace.proofs.characters.is_user.Goals as goal
 
 pub returns-then-at-index : goal.returns-then-at-index

@@ -1,6 +1,5 @@
 use Rattle.layout.specs.Layout.{condition_in}
 use Rattle.index.proofs.Entries.{as_many}
-use borrow.Author.Rules.{rules}
 use Rattle.inplace.proofs.characters.reindex.Goals as goal
 
 pub returns : goal.returns

@@ -2,7 +2,6 @@ use Rattle.row.specs.Row.{line_start}
 use Rattle.condition.specs.Bytes.{return_of}
 use Rattle.inplace.proofs.InPlace.{cursor-at, mode-at}
 use borrow.Author.Tests.{le-ltb, lt-ltb}
-use borrow.Author.Rules.{rules}
 use Rattle.inplace.proofs.commands.carriage_return.Goals as goal
 
 pub returns-then-x-lt-COLUMNS : goal.returns-then-x-lt-COLUMNS

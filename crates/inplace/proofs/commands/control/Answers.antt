@@ -1,6 +1,5 @@
 use Rattle.condition.specs.Bytes.{control_of}
 use Rattle.laws.proofs.Tests.{tests}
-use borrow.Author.Rules.{rules}
 use Rattle.inplace.proofs.commands.control.Goals as goal
 
 pub returns-in-8 : goal.returns-in-8

@@ -1,7 +1,6 @@
 use Rattle.condition.specs.Bytes.{down_of}
 use Rattle.inplace.proofs.InPlace.{cursor-at, mode-at}
 use borrow.Author.Tests.{eq-eqb, le-ltb, lt-ltb, ne_eqb}
-use borrow.Author.Rules.{rules}
 use Rattle.inplace.proofs.commands.down.Goals as goal
 
 pub returns-then-x-lt-COLUMNS : goal.returns-then-x-lt-COLUMNS

@@ -1,7 +1,6 @@
 use Rattle.condition.specs.Bytes.{left_of}
 use Rattle.inplace.proofs.InPlace.{cursor-at, mode-at}
 use borrow.Author.Tests.{eq-eqb, ne_eqb}
-use borrow.Author.Rules.{rules}
 use Rattle.inplace.proofs.commands.left.Goals as goal
 
 pub returns-then-x-eq0 : goal.returns-then-x-eq0

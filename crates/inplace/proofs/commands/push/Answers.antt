@@ -1,7 +1,6 @@
 use Rattle.condition.specs.Bytes.{push_of}
 use Rattle.inplace.proofs.InPlace.{cursor-at, mode-at, scrolling-at}
 use borrow.Author.Tests.{eq-eqb, ne_eqb}
-use borrow.Author.Rules.{rules}
 use Rattle.inplace.proofs.commands.push.Goals as goal
 
 pub returns-then-on-eq1 : goal.returns-then-on-eq1

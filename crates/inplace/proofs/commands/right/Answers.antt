@@ -2,7 +2,6 @@ use mathlib.Core.Path.{◌∙◌, ap}
 use Rattle.condition.specs.declared.Condition.{Condition}
 use Rattle.condition.specs.Set.{with_cursor}
 use Rattle.inplace.proofs.Branches.{right-one, right-stays, right-next, right-home, right-scroll}
-use borrow.Author.Rules.{rules}
 use Rattle.inplace.proofs.commands.right.Goals as goal
 
 pub returns-then-below_19 : goal.returns-then-below_19

@@ -1,5 +1,4 @@
 use Rattle.laws.proofs.Tests.{tests}
-use borrow.Author.Rules.{rules}
 use Rattle.inplace.proofs.commands.select.Goals as goal
 
 pub returns-in-24 : goal.returns-in-24

@@ -1,5 +1,4 @@
 use Rattle.laws.proofs.Tests.{tests}
-use borrow.Author.Rules.{rules}
 use Rattle.inplace.proofs.commands.setting.Goals as goal
 
 pub returns-in-17 : goal.returns-in-17

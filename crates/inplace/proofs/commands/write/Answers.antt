@@ -20,7 +20,7 @@ pub right-requires : goal.right-requires
 right-requires c =
     let s = c.args.s.now in
     let p = c.put-2 in
-    let e : get_or p.new.0 3 0 ≡ get_or s 3 0 = cursor-by _ _ p.ensures ∙ cursor-at s in
+    let e : get_or p.new.s 3 0 ≡ get_or s 3 0 = cursor-by _ _ p.ensures ∙ cursor-at s in
     (search rules, rw e (search rules))
 
 pub returns : goal.returns

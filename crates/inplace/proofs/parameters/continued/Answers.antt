@@ -3,6 +3,8 @@ use Rattle.condition.specs.declared.Pending.TheVariants.{Escape, Position, Lumin
 use mathlib.Core.Path.{◌∙◌}
 use Rattle.inplace.proofs.Branches.{half_step, awaits-data, data-step}
 use borrow.Author.Rules.{rules}
+use native.Mathlib.Omega.{arith}
+use lib.ListN.{get_or}
 use Rattle.inplace.proofs.parameters.continued.Goals as goal
 
 pub returns-in-1 : goal.returns-in-1
@@ -33,6 +35,6 @@ returns-in-5 c =
 
 pub returns-in_default : goal.returns-in_default
 returns-in_default c =
-    let r = c.in_default in
     c.user_data.ensures
-    ∙ data-step _ _ (awaits-data _ _ _ (search rules) r.0.0.0.0.1 r.0.0.0.1 r.0.0.1 r.0.1 r.1)
+    ∙ data-step _ _ (awaits-data (get_or c.args.s.now 13 0) _ _ (search rules)
+    (λ z. omega arith) (λ z. omega arith) (λ z. omega arith) (λ z. omega arith) (λ z. omega arith))

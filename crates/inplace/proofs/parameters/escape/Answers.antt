@@ -1,6 +1,5 @@
 use Rattle.condition.specs.Bytes.{escape_of}
 use Rattle.laws.proofs.Tests.{tests}
-use borrow.Author.Rules.{rules}
 use Rattle.inplace.proofs.parameters.escape.Goals as goal
 
 pub returns-in-67 : goal.returns-in-67

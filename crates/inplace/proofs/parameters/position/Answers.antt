@@ -1,7 +1,6 @@
 use Rattle.condition.specs.Bytes.{position_of}
 use Rattle.inplace.proofs.InPlace.{cursor-at, mode-at, scrolling-at}
 use borrow.Author.Tests.{le-leb, lt-leb}
-use borrow.Author.Rules.{rules}
 use Rattle.inplace.proofs.parameters.position.Goals as goal
 
 pub returns-then-p-le39 : goal.returns-then-p-le39

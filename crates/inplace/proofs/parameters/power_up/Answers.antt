@@ -1,7 +1,6 @@
 use Rattle.condition.specs.Condition.{power_up}
 use Rattle.index.proofs.Entries.{index-none}
 use Rattle.inplace.proofs.InPlace.{link_at}
-use borrow.Author.Rules.{rules}
 use Rattle.inplace.proofs.parameters.power_up.Goals as goal
 
 pub returns : goal.returns

@@ -1,6 +1,5 @@
 use Rattle.condition.specs.Bytes.{data_of}
 use borrow.Author.Tests.{le-ltb, lt-ltb}
-use borrow.Author.Rules.{rules}
 use Rattle.inplace.proofs.parameters.user_data.Goals as goal
 
 pub returns-then-n-lt4 : goal.returns-then-n-lt4

@@ -1,11 +1,6 @@
-use Prim.Native.Nat.{◌≤◌, ◌-◌}
-use mathlib.Core.Path.{◌≡◌}
 use native.Mathlib.Omega.{arith}
 use borrow.Author.Rules.{rules}
-use lib.ListN.{length}
-use Rattle.layout.specs.Layout.{condition_in}
-use Rattle.inplace.specs.InPlace.{LentIndex}
-use Rattle.inplace.proofs.Running.{Going, going-starts, going-place, going-most, going-turns, going-ends}
+use Rattle.inplace.proofs.Running.{going-starts, going-place, going-most, going-turns, going-ends}
 use Rattle.inplace.proofs.run.run_in.Goals as goal
 
 pub loop-i-init : goal.loop-i-init
@@ -29,18 +24,17 @@ step-took-requires c =
 pub overflow_add-busy : goal.overflow_add-busy
 overflow_add-busy c =
     let l = c.loop-i.invariant in
-    omega (arith, c.struct_known-1.given, (going-most _ _ _ _ _ _ _ l.0 l.1).0)
+    omega (arith, (going-most _ _ _ _ _ _ _ l.0 l.1).0)
 
 pub overflow_add-worst : goal.overflow_add-worst
 overflow_add-worst c =
     let l = c.loop-i.invariant in
-    omega (arith, c.struct_known-in-loop-i-1.given, (going-most _ _ _ _ _ _ _ l.0 l.1).2)
+    omega (arith, (going-most _ _ _ _ _ _ _ l.0 l.1).2)
 
 pub loop-i-preserved : goal.loop-i-preserved
 loop-i-preserved c =
-    let l = c.loop-i in
-    let b = c.shared_slice_known-in-loop-i-1.given l.i in (
-      going-turns _ _ _ _ _ _ _ l.invariant.0 _ _ _ c.loop-i-test.true b.fits (search rules)
+    let l = c.loop-i in (
+      going-turns _ _ _ _ _ _ _ l.invariant.0 _ _ _ c.loop-i-test.true (search rules) (search rules)
           c.step-took.ensures.0 c.one_if-flickerless.ensures.0,
       l.invariant.1,
       search rules,

@@ -2,7 +2,6 @@ use mathlib.Core.Path.{sym, ◌∙◌}
 use Rattle.condition.proofs.Characters.{plain-char, user-char, no_char}
 use Rattle.inplace.proofs.Branches.{quick-step, char-step, control-step}
 use Rattle.inplace.proofs.Altering.{idle-step}
-use borrow.Author.Rules.{rules}
 use Rattle.inplace.proofs.run.step.Goals as goal
 
 pub returns-then-kind-ne0 : goal.returns-then-kind-ne0
@@ -20,7 +19,8 @@ pub returns-then-is_user : goal.returns-then-is_user
 returns-then-is_user c =
     idle-step _ _ _ _ _ c.if-kind-ne0.false c.requires.2
     (char-step _ _ _ _ _ c.figures-then-is_user.ensures c.if-kind-ne0.false
-    (user-char _ _ (sym c.is_user.ensures ∙ c.if-is_user.true)) c.character-then-is_user.ensures.0 c.character-then-is_user.ensures.1)
+    (user-char _ _ (sym c.is_user.ensures ∙ c.if-is_user.true))
+    c.character-then-is_user.ensures.0 c.character-then-is_user.ensures.1)
 
 pub returns : goal.returns
 returns c =

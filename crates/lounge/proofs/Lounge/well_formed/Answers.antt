@@ -1,5 +1,4 @@
 use Rattle.lounge.specs.Condition.{well_formed}
-use borrow.Author.Rules.{rules}
 use Rattle.lounge.proofs.Lounge.well_formed.Goals as goal
 
 pub returns : goal.returns

@@ -1,7 +1,6 @@
 use mathlib.Core.Path.{◌∙◌}
 use Rattle.lounge.specs.Pairs.{return_of}
 use Rattle.lounge.specs.Head.{lounge_in}
-use borrow.Author.Rules.{rules}
 use Rattle.lounge.proofs.controls.carriage_return.Goals as goal
 
 pub returns : goal.returns

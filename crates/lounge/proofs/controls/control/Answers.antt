@@ -1,7 +1,6 @@
 use mathlib.Core.Path.{◌∙◌}
 use Rattle.laws.proofs.Tests.{tests}
 use Rattle.lounge.specs.Pairs.{control_of}
-use borrow.Author.Rules.{rules}
 use Rattle.lounge.proofs.controls.control.Goals as goal
 
 pub returns-in-9 : goal.returns-in-9

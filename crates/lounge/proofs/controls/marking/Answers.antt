@@ -2,7 +2,6 @@ use mathlib.Core.Path.{◌∙◌}
 use Rattle.laws.proofs.Tests.{tests}
 use Rattle.lounge.specs.Pairs.{marking_of}
 use Rattle.lounge.specs.Head.{lounge_in}
-use borrow.Author.Rules.{rules}
 use Rattle.lounge.proofs.controls.marking.Goals as goal
 
 pub returns-in-23 : goal.returns-in-23

@@ -1,5 +1,4 @@
 use Rattle.lounge.proofs.Branches.{push-shifts, push-starts}
-use borrow.Author.Rules.{rules}
 use Rattle.lounge.proofs.controls.push.Goals as goal
 
 pub returns-then-h-eq1 : goal.returns-then-h-eq1

@@ -2,7 +2,6 @@ use mathlib.Core.Path.{◌∙◌}
 use mathlib.Core.Path.{refl}
 use mathlib.Core.Path.{sym}
 use Rattle.lounge.proofs.Branches.{reset-home, reset-away}
-use borrow.Author.Rules.{rules}
 use Rattle.lounge.proofs.controls.reset_line.Goals as goal
 
 pub returns-then-line_start-start : goal.returns-then-line_start-start

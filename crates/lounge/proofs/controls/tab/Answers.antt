@@ -1,5 +1,4 @@
 use Rattle.lounge.proofs.Branches.{tab-one, tab-next, tab-scrolls}
-use borrow.Author.Rules.{rules}
 use Rattle.lounge.proofs.controls.tab.Goals as goal
 
 pub returns-then-x-lt-LAST_COLUMN : goal.returns-then-x-lt-LAST_COLUMN

@@ -1,7 +1,6 @@
 use Rattle.lounge.proofs.Branches.{write-pushes, write_moves}
 use Rattle.lounge.specs.Pairs.{after_write}
 use borrow.Author.Tests.{eq-eqb, ne_eqb}
-use borrow.Author.Rules.{rules}
 use Rattle.lounge.proofs.controls.write.Goals as goal
 
 pub returns-then-h-x : goal.returns-then-h-x

@@ -1,5 +1,4 @@
 use Rattle.lounge.specs.Head.{head_of}
-use borrow.Author.Rules.{rules}
 use Rattle.lounge.proofs.heads.head.Goals as goal
 
 pub returns : goal.returns

@@ -6,7 +6,6 @@ use borrow.Author.Tests.{leb-true}
 use Rattle.laws.proofs.Tests.{both}
 use Rattle.lounge.specs.Marks.{is_pair}
 use Rattle.lounge.proofs.Branches.{area-law}
-use borrow.Author.Rules.{rules}
 use Rattle.lounge.proofs.marking.mark.Goals as goal
 use Rattle.lounge.proofs.marking.mark.Goals.{Then-is_pair}
 

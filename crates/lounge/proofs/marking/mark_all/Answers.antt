@@ -1,9 +1,6 @@
-use mathlib.Core.Path.{◌≡◌, refl}
-use mathlib.Core.List.{map, ◌++◌}
-use Prim.Native.Nat.{◌-◌, ◌≤◌}
+use mathlib.Core.Path.{refl}
 use native.Mathlib.Omega.{arith}
 use borrow.Author.Rules.{rules}
-use lib.ListN.{length, take, drop}
 use Rattle.lounge.specs.Marks.{marked}
 use Rattle.laws.proofs.Lists.{map-turn, map-done}
 use Rattle.lounge.proofs.marking.mark_all.Goals as goal

@@ -1,16 +1,14 @@
-use mathlib.Core.Path.{◌≡◌, refl}
+use mathlib.Core.Path.{◌≡◌}
 use mathlib.Core.List.{map, ◌++◌}
 use Prim.Native.Nat.{◌-◌, ◌≤◌}
-use native.Mathlib.Omega.{arith}
-use borrow.Author.Rules.{rules}
 use lib.ListN.{length, take, drop}
 use Rattle.lounge.specs.Marks.{marked}
-use Rattle.laws.proofs.Lists.{map-turn, map-done}
 use Rattle.lounge.proofs.marking.mark_all.Given as goal
 
 abbrev pub invariant-loop-i : goal.invariant-loop-i
 invariant-loop-i l =
-    (l.marks ≡ map (marked l.k) (take l.i l.initial.marks) ++ drop l.i l.initial.marks) × (l.i ≤ length l.initial.marks) × (length l.marks ≡ length l.initial.marks)
+    (l.marks ≡ map (marked l.k) (take l.i l.initial.marks) ++ drop l.i l.initial.marks)
+    × (l.i ≤ length l.initial.marks) × (length l.marks ≡ length l.initial.marks)
 
 abbrev pub decreases-loop-i : goal.decreases-loop-i
 decreases-loop-i l = length l.initial.marks - l.i

@@ -4,7 +4,6 @@ use mathlib.Core.Path.{sym}
 use mathlib.Core.Bool.{or-true, or-false}
 use Rattle.users.specs.Users.{is_user}
 use borrow.Author.Tests.{le-leb, lt-leb}
-use borrow.Author.Rules.{rules}
 use Rattle.lounge.proofs.pairs.is_char.Goals as goal
 
 pub returns-then-b-ge32 : goal.returns-then-b-ge32

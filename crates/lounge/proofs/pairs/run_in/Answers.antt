@@ -1,10 +1,6 @@
-use Prim.Native.Nat.{◌-◌}
-use mathlib.Core.Path.{◌≡◌}
 use native.Mathlib.Omega.{arith}
 use borrow.Author.Rules.{rules}
-use lib.ListN.{length}
-use Rattle.lounge.specs.Head.{lounge_in}
-use Rattle.lounge.proofs.Running.{Going, going-starts, going-place, going-turns, going-ends}
+use Rattle.lounge.proofs.Running.{going-starts, going-place, going-turns, going-ends}
 use Rattle.lounge.proofs.pairs.run_in.Goals as goal
 
 pub loop-i-init : goal.loop-i-init

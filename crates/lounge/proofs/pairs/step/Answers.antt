@@ -11,7 +11,7 @@ use Rattle.lounge.proofs.pairs.step.Goals as goal
 pub shape_of-h-then-kind-eq1 : goal.shape_of-h-then-kind-eq1
 shape_of-h-then-kind-eq1 c =
     let a = c.args in
-    let e : length c.command.new.0 ≡ length (set a.h.now 4 a.b) = search rules in
+    let e : length c.command.new.h ≡ length (set a.h.now 4 a.b) = search rules in
     e ∙ length-set a.h.now 4 a.b
 
 pub returns-then-kind-eq1 : goal.returns-then-kind-eq1
@@ -24,7 +24,7 @@ continued-requires c = (search rules, search rules, search rules, omega (arith, 
 pub shape_of-h-then-h-ne0 : goal.shape_of-h-then-h-ne0
 shape_of-h-then-h-ne0 c =
     let a = c.args in
-    let e : length c.continued.new.0 ≡ length (set a.h.now 4 a.b) = search rules in
+    let e : length c.continued.new.h ≡ length (set a.h.now 4 a.b) = search rules in
     e ∙ length-set a.h.now 4 a.b
 
 pub returns-then-h-ne0 : goal.returns-then-h-ne0
@@ -33,19 +33,18 @@ returns-then-h-ne0 c =
     c.continued.ensures refl
 
 pub write-requires : goal.write-requires
-write-requires c =
-    (
-      search rules,
-      search rules,
-      search rules,
-      rw (get_or-set_other c.args.h.now 4 0 c.args.b 0 (λ e. omega arith))
-          c.requires.4,
-    )
+write-requires c = (
+  search rules,
+  search rules,
+  search rules,
+  rw (get_or-set_other c.args.h.now 4 0 c.args.b 0 (λ e. omega arith))
+      c.requires.4,
+)
 
 pub shape_of-h-then-is_char : goal.shape_of-h-then-is_char
 shape_of-h-then-is_char c =
     let a = c.args in
-    let e : length c.write.new.0 ≡ length (set a.h.now 4 a.b) = search rules in
+    let e : length c.write.new.h ≡ length (set a.h.now 4 a.b) = search rules in
     e ∙ length-set a.h.now 4 a.b
 
 pub returns-then-is_char : goal.returns-then-is_char
@@ -55,19 +54,18 @@ returns-then-is_char c =
     (sym c.is_char.ensures ∙ c.if-is_char.true) c.write.ensures refl
 
 pub control-requires : goal.control-requires
-control-requires c =
-    (
-      search rules,
-      search rules,
-      search rules,
-      rw (get_or-set_other c.args.h.now 4 0 c.args.b 0 (λ e. omega arith))
-          c.requires.4,
-    )
+control-requires c = (
+  search rules,
+  search rules,
+  search rules,
+  rw (get_or-set_other c.args.h.now 4 0 c.args.b 0 (λ e. omega arith))
+      c.requires.4,
+)
 
 pub shape_of-h : goal.shape_of-h
 shape_of-h c =
     let a = c.args in
-    let e : length c.control.new.0 ≡ length (set a.h.now 4 a.b) = search rules in
+    let e : length c.control.new.h ≡ length (set a.h.now 4 a.b) = search rules in
     e ∙ length-set a.h.now 4 a.b
 
 pub returns : goal.returns

@@ -1,6 +1,5 @@
 use mathlib.Core.Path.{◌∙◌}
 use Rattle.lounge.proofs.Branches.{area-by}
-use borrow.Author.Rules.{rules}
 use Rattle.lounge.proofs.sequences.area.Goals as goal
 
 pub returns : goal.returns

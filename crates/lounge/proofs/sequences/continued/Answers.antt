@@ -4,7 +4,6 @@ use Rattle.lounge.proofs.Branches.{continues, awaits-second}
 use native.Mathlib.Omega.{arith}
 use Rattle.lounge.specs.Pairs.{written_at}
 use Rattle.lounge.specs.declared.Pending.TheVariants.{Escape, UserData, First, Second}
-use borrow.Author.Rules.{rules}
 use Rattle.lounge.proofs.sequences.continued.Goals as goal
 
 pub returns-in-1 : goal.returns-in-1

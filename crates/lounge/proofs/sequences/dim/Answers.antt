@@ -1,5 +1,4 @@
 use mathlib.Core.Path.{sym, ◌∙◌}
-use borrow.Author.Rules.{rules}
 use Rattle.lounge.proofs.sequences.dim.Goals as goal
 
 pub returns-then-area-is_pair : goal.returns-then-area-is_pair

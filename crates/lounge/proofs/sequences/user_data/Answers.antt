@@ -1,6 +1,5 @@
 use mathlib.Core.Path.{refl}
 use Rattle.lounge.proofs.Branches.{data-held, data-defines}
-use borrow.Author.Rules.{rules}
 use Rattle.lounge.proofs.sequences.user_data.Goals as goal
 
 pub returns-then-n-lt4 : goal.returns-then-n-lt4

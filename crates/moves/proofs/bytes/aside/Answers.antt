@@ -1,7 +1,6 @@
 use native.Mathlib.Omega.{arith}
 use borrow.Author.Tests.{lt-ltb, le-ltb}
 use Rattle.moves.specs.Kinds.{column_of}
-use borrow.Author.Rules.{rules}
 use Rattle.moves.proofs.bytes.aside.Goals as goal
 
 pub returns-then-column : goal.returns-then-column

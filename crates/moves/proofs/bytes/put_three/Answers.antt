@@ -1,6 +1,5 @@
 use native.Mathlib.Omega.{arith}
 use Rattle.moves.proofs.Put.{put-none, put_one, put_two, put_all}
-use borrow.Author.Rules.{rules}
 use Rattle.moves.proofs.bytes.put_three.Goals as goal
 
 pub returns-then-n-eq0 : goal.returns-then-n-eq0

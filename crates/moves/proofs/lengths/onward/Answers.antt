@@ -1,6 +1,5 @@
 use native.Mathlib.Omega.{arith}
 use Rattle.moves.proofs.Four.{onward-length}
-use borrow.Author.Rules.{rules}
 use Rattle.moves.proofs.lengths.onward.Goals as goal
 
 pub returns-then-from-to : goal.returns-then-from-to

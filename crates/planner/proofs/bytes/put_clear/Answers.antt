@@ -1,5 +1,4 @@
 use mathlib.Core.Path.{refl}
-use borrow.Author.Rules.{rules}
 use Rattle.planner.proofs.bytes.put_clear.Goals as goal
 
 pub bounds-out-0 : goal.bounds-out-0

@@ -1,6 +1,5 @@
 use Rattle.planner.specs.Fonts.{switch}
 use Rattle.planner.proofs.Putting.{put_last}
-use borrow.Author.Rules.{rules}
 use Rattle.planner.proofs.bytes.put_code.Goals as goal
 
 pub returns : goal.returns

@@ -1,6 +1,5 @@
 use Rattle.planner.proofs.Clear.{either_is}
 use Rattle.planner.proofs.Putting.{put_same}
-use borrow.Author.Rules.{rules}
 use Rattle.planner.proofs.bytes.put_either.Goals as goal
 
 pub put_plan-requires : goal.put_plan-requires

@@ -1,8 +1,7 @@
 use mathlib.Core.Path.{sym, ◌∙◌}
-use Prim.Native.Nat.{◌-◌}
 use borrow.Author.Rules.{rules}
 use Rattle.planner.proofs.Canvas.{wrong_in}
-use Rattle.planner.proofs.Counting.{Planning, plan-start, plan-skip, plan-write, plan-end}
+use Rattle.planner.proofs.Counting.{plan-start, plan-skip, plan-write, plan-end}
 use Rattle.planner.proofs.Counting.{way-room, code-room, end-room, end-long}
 use Rattle.planner.proofs.Started.{clearing-long, clear_room, room_by, put-by}
 use Rattle.planner.proofs.bytes.put_plan.Goals as goal
@@ -21,11 +20,11 @@ loop-i-preserved c =
     let v = c.loop-i.invariant in
     let d = c.differs.ensures in
     elim c.if-differs.branch [
-      then-differs w ↦
-        plan-write _ _ _ _ _ _ _ _ v _ _ _ _ _ _ (search rules) (sym d ∙ w.if-differs.true) w.put_way-at.ensures
-        (w.k-is ∙ w.put_code-k.ensures.0, w.out-is ∙ w.put_code-k.ensures.1) (w.p-is ∙ w.next-p.ensures) w.selected-is
-    | else-differs w ↦
-        plan-skip _ _ _ _ _ _ _ _ v _ _ _ _ (search rules) (sym d ∙ w.if-differs.false) w.out-is w.p-is w.selected-is w.k-is
+      | then-differs w ↦
+          plan-write _ _ _ _ _ _ _ _ v _ _ _ _ _ _ (search rules) (sym d ∙ w.if-differs.true) w.put_way-at.ensures
+          (w.k-is ∙ w.put_code-k.ensures.0, w.out-is ∙ w.put_code-k.ensures.1) (w.p-is ∙ w.next-p.ensures) w.selected-is
+      | else-differs w ↦
+          plan-skip _ _ _ _ _ _ _ _ v _ _ _ _ (search rules) (sym d ∙ w.if-differs.false) w.out-is w.p-is w.selected-is w.k-is
     ]
 
 pub returns : goal.returns

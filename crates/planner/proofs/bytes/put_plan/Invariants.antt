@@ -1,11 +1,5 @@
-use mathlib.Core.Path.{sym, ◌∙◌}
-use mathlib.Core.Logic.{⊎_elim}
 use Prim.Native.Nat.{◌-◌}
-use borrow.Author.Rules.{rules}
-use Rattle.planner.proofs.Canvas.{wrong_in}
-use Rattle.planner.proofs.Counting.{Planning, plan-start, plan-skip, plan-write, plan-end}
-use Rattle.planner.proofs.Counting.{way-room, code-room, end-room, end-long}
-use Rattle.planner.proofs.Started.{clearing-long, clear_room, room_by, put-by}
+use Rattle.planner.proofs.Counting.{Planning}
 use Rattle.planner.proofs.bytes.put_plan.Given as goal
 
 abbrev pub invariant-loop-i : goal.invariant-loop-i

@@ -3,7 +3,6 @@ use mathlib.Core.List.{[], ◌∷◌}
 use native.Mathlib.Numerals.{add-one}
 use native.Mathlib.Omega.{arith}
 use lib.ListN.{length, length-set}
-use borrow.Author.Rules.{rules}
 use Rattle.planner.specs.Fonts.{switch}
 use Rattle.planner.proofs.Costs.{switch-same, switch-katakana, switch-international, back_some}
 use Rattle.planner.proofs.bytes.put_switch.Goals as goal

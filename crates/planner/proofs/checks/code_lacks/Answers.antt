@@ -1,6 +1,5 @@
 use borrow.Author.Tests.{le-ltb, lt-ltb}
 use Rattle.planner.specs.Answer.{lacks}
-use borrow.Author.Rules.{rules}
 use Rattle.planner.proofs.checks.code_lacks.Goals as goal
 
 pub returns-then-code-ge32 : goal.returns-then-code-ge32

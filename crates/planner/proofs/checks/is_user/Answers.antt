@@ -1,5 +1,4 @@
 use Rattle.users.specs.Users.{is_user}
-use borrow.Author.Rules.{rules}
 use Rattle.planner.proofs.checks.is_user.Goals as goal
 
 pub returns : goal.returns

@@ -1,5 +1,4 @@
 use Rattle.planner.specs.Answer.{fonts_refusal}
-use borrow.Author.Rules.{rules}
 use Rattle.planner.proofs.checks.of_fonts.Goals as goal
 
 pub returns : goal.returns

@@ -1,5 +1,4 @@
 use Rattle.planner.specs.Answer.{on_move}
-use borrow.Author.Rules.{rules}
 use Rattle.planner.proofs.checks.on_move.Goals as goal
 
 pub returns : goal.returns

@@ -1,5 +1,4 @@
 use Rattle.planner.specs.Answer.{on_switch}
-use borrow.Author.Rules.{rules}
 use Rattle.planner.proofs.checks.on_switch.Goals as goal
 
 pub returns : goal.returns

@@ -1,5 +1,4 @@
 use Rattle.planner.specs.Answer.{refusal_by}
-use borrow.Author.Rules.{rules}
 use Rattle.planner.proofs.checks.refusal_by.Goals as goal
 
 pub returns : goal.returns

@@ -1,11 +1,6 @@
-use mathlib.Core.Path.{◌≡◌, refl, sym, ◌∙◌}
-use Prim.Native.Nat.{◌≤◌, ◌-◌}
+use mathlib.Core.Path.{refl, sym, ◌∙◌}
 use native.Mathlib.Omega.{arith}
-use lib.ListN.{length, drop}
-use Rattle.users.specs.Users.{users_in}
-use Rattle.planner.specs.Answer.{some_lacks}
 use Rattle.planner.proofs.Wanted.{lacks-turn, lacks-stop, lacks-end}
-use borrow.Author.Rules.{rules}
 use Rattle.planner.proofs.checks.some_lacks.Goals as goal
 
 pub loop-i-init : goal.loop-i-init

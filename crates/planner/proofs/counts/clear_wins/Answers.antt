@@ -1,5 +1,4 @@
 use mathlib.Core.Path.{sym, ◌∙◌}
-use borrow.Author.Rules.{rules}
 use Rattle.planner.specs.Clear.{clear_wins}
 use Rattle.planner.proofs.counts.clear_wins.Goals as goal
 

@@ -1,10 +1,10 @@
 use mathlib.Core.Path.{sym, ◌∙◌}
-use Prim.Native.Nat.{ℕ, ◌+◌, ◌-◌, ◌<◌}
+use Prim.Native.Nat.{ℕ, ◌+◌, ◌<◌}
 use native.Mathlib.Omega.{arith}
 use borrow.Author.Rules.{rules}
 use Rattle.moves.proofs.Rule.{fewest-length}
 use Rattle.planner.proofs.Canvas.{wrong_in}
-use Rattle.planner.proofs.Counting.{Counting, count-start, count-skip, count-sum, count_fits, count-write, count-end}
+use Rattle.planner.proofs.Counting.{count-start, count-skip, count-sum, count_fits, count-write, count-end}
 use Rattle.planner.proofs.Counting.{end_fits}
 use Rattle.planner.proofs.Started.{count_by, clear-most}
 use Rattle.planner.proofs.counts.count_plan.Goals as goal
@@ -20,12 +20,12 @@ loop-j-preserved c =
     let v = c.loop-j.invariant in
     let d = c.differs.ensures in
     elim c.if-differs.branch [
-      then-differs w ↦
-        let sum = count-sum _ _ _ _ _ _ _ _ v _ _ w.number-way.ensures w.switch_length-more.ensures (search rules) in
-        count-write _ _ _ _ _ _ _ _ v _ _ _ (search rules) (sym d ∙ w.if-differs.true) (w.n-is ∙ sum)
-        (w.p-is ∙ w.next-p.ensures) w.selected-is
-    | else-differs w ↦
-        count-skip _ _ _ _ _ _ _ _ v _ _ _ (search rules) (sym d ∙ w.if-differs.false) w.p-is w.selected-is w.n-is
+      | then-differs w ↦
+          let sum = count-sum _ _ _ _ _ _ _ _ v _ _ w.number-way.ensures w.switch_length-more.ensures (search rules) in
+          count-write _ _ _ _ _ _ _ _ v _ _ _ (search rules) (sym d ∙ w.if-differs.true) (w.n-is ∙ sum)
+          (w.p-is ∙ w.next-p.ensures) w.selected-is
+      | else-differs w ↦
+          count-skip _ _ _ _ _ _ _ _ v _ _ _ (search rules) (sym d ∙ w.if-differs.false) w.p-is w.selected-is w.n-is
     ]
 
 pub returns : goal.returns

@@ -8,7 +8,7 @@ use Rattle.vetting.proofs.judging.settle.Given as goal
 
 abbrev pub invariant-loop-j : goal.invariant-loop-j
 invariant-loop-j l =
-    Looked (λ l.j. wrong_cell (get_or l.codes l.j 0) (get_or l.fonts l.j 0) (get_or l.wanted l.j 0) l.font) l.j
+    Looked (λ j. wrong_cell (get_or l.codes j 0) (get_or l.fonts j 0) (get_or l.wanted j 0) l.font) l.j
 
 abbrev pub decreases-loop-j : goal.decreases-loop-j
 decreases-loop-j l = 40 - l.j
