@@ -1,5 +1,6 @@
 // The C host program's questions about the glass, on a lent block.
 #![tactic(auto)]
+
 ghost use Rattle.std.specs.Prelude.{◌≡◌};
 ghost use Rattle.questions.specs.Questions.{built_in_number, shows_number, host_view, host_dot, host_underline, host_lit};
 

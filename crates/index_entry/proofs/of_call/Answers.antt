@@ -1,4 +1,4 @@
-use borrow.Author.Tests.{ne_eqb}
+use Rattle.laws.proofs.Tests.{tests}
 use Rattle.index_entry.specs.Entry.{call_refusal}
 use borrow.Author.Rules.{rules}
 use Rattle.index_entry.proofs.of_call.Goals as goal
@@ -42,7 +42,4 @@ returns-in-8 c = rw (c.of_underline.ensures, c.in-8.is)
 pub returns-in_default : goal.returns-in_default
 unfolding call_refusal
 returns-in_default c =
-    let r = c.in_default in
-    rw (c.of_lit.ensures, ne_eqb _ _ r.0.0.0.0.0.0.0.0.1, ne_eqb _ _ r.0.0.0.0.0.0.0.1)
-    (rw (ne_eqb _ _ r.0.0.0.0.0.0.1, ne_eqb _ _ r.0.0.0.0.0.1, ne_eqb _ _ r.0.0.0.0.1)
-    (rw (ne_eqb _ _ r.0.0.0.1, ne_eqb _ _ r.0.0.1, ne_eqb _ _ r.0.1, ne_eqb _ _ r.1)))
+    rw c.of_lit.ensures (search (tests, c.in_default))

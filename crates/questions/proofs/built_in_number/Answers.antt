@@ -1,5 +1,4 @@
 use borrow.Author.Tests.{eq-eqb, ne_eqb}
-use borrow.Author.Rules.{rules}
 use Rattle.questions.proofs.built_in_number.Goals as goal
 
 pub returns-then-font-eq0 : goal.returns-then-font-eq0

@@ -1,6 +1,5 @@
 use Rattle.questions.specs.Questions.{host_dot}
 use Rattle.questions.proofs.Asked.{asked-damaged, dot-in}
-use borrow.Author.Rules.{rules}
 use Rattle.questions.proofs.dot.Goals as goal
 
 pub returns-then-got-ne0 : goal.returns-then-got-ne0

@@ -1,6 +1,5 @@
 use Rattle.questions.specs.Questions.{host_lit}
 use Rattle.questions.proofs.Asked.{asked-damaged, lit-in}
-use borrow.Author.Rules.{rules}
 use Rattle.questions.proofs.lit.Goals as goal
 
 pub returns-then-got-ne0 : goal.returns-then-got-ne0

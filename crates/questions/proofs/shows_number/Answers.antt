@@ -1,4 +1,3 @@
-use borrow.Author.Rules.{rules}
 use Rattle.questions.proofs.shows_number.Goals as goal
 
 pub returns-in-User : goal.returns-in-User

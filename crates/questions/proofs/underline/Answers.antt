@@ -1,6 +1,5 @@
 use Rattle.questions.specs.Questions.{host_underline}
 use Rattle.questions.proofs.Asked.{asked-damaged, underline-in}
-use borrow.Author.Rules.{rules}
 use Rattle.questions.proofs.underline.Goals as goal
 
 pub returns-then-got-ne0 : goal.returns-then-got-ne0

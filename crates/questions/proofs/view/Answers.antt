@@ -1,6 +1,5 @@
 use Rattle.questions.specs.Questions.{host_view}
 use Rattle.questions.proofs.Asked.{asked-damaged, view_in}
-use borrow.Author.Rules.{rules}
 use Rattle.questions.proofs.view.Goals as goal
 
 pub returns-then-got-ne0 : goal.returns-then-got-ne0
