@@ -1,10 +1,14 @@
 // Lines of text in a lent buffer, added piece by piece as far as there is room. Each function answers the place after its text.
 #![tactic(auto)]
+
 ghost use Rattle.std.specs.Prelude.{◌≡◌, ◌++◌, ◌<◌, length};
 ghost use Rattle.lines.specs.Lines.{Added, hex_digit, hex_of, last_digit, numbered, end_start, end_of};
 ghost use Rattle.lines.specs.Lines.{separator_of, hex_line, cell_lines, refused_line};
 
+mod system;
+
 use interpreter::Ran;
+pub use system::{EIO, PATH, arg, fail, has_args, path, read_full, say};
 
 const CELLS: usize = 40;
 

@@ -11,7 +11,7 @@ use borrow.Author.Tests.{ltb-false, eq-eqb, ne_eqb}
 use Rattle.laws.proofs.Tests.{by_cases, by-test, passed}
 use Rattle.laws.specs.Flags.{flag}
 use Rattle.laws.proofs.Flags.{flag-most}
-use Rattle.lines.specs.Lines.{Added, text, each, numbered, new_line, refused_line}
+use Rattle.lines.specs.Lines.{Added, text, numbered, new_line, refused_line}
 use Rattle.lines.proofs.Laws.{whole-added, each_below, each_same, decimal-below, refused-length}
 use Rattle.salvage.specs.Salvage.{whole_in, tail_in, is_good, last_good, change_line, line_for, tail_line, count_of, counts_line}
 use Rattle.salvage.specs.Salvage.{report_of, salvage_refusal, salvage_of}

@@ -1,63 +1,73 @@
 // The first file. What fails is said on standard error, by its name and the system's words.
+use lines::{fail, path, say};
+use std::fs::File;
+use std::io::{Error, Read, Seek};
 
-pub(crate) fn say(name: &[u8], words: &[u8]) {
-    io::write_all(libc::STDERR_FILENO, name);
-    io::write_all(libc::STDERR_FILENO, words);
+// Whether what is open is a file; a directory, a disk's own device, a pipe, a terminal and a device such as /dev/null are none.
+pub(crate) fn is_regular(file: &File) -> bool {
+    match file.metadata() {
+        Ok(m) => m.is_file(),
+        Err(_) => false,
+    }
 }
 
-// Linux's: the next hole from a place on.
-const SEEK_HOLE: i32 = 4;
+pub(crate) fn say_not_regular(rt: HostRuntime, name: &[u8]) {
+    say(rt, name, b": not a regular file\n");
+}
 
-// Whether the descriptor is that of a file. A disk's own device cannot be asked for holes (an empty file has none either, but says so
-// by another error); a pipe, a terminal and a device such as /dev/null have no place 1.
-pub(crate) fn is_regular(fd: i32) -> bool {
-    if libc::lseek(fd, 0, SEEK_HOLE) < 0 {
-        if os::errno() == libc::EINVAL {
-            return false;
+pub(crate) fn open(rt: HostRuntime, name: &[u8]) -> Result<File, Error> {
+    let text = path(name)?;
+    File::open(&rt, text)
+}
+
+// A directory can be opened and cannot be read, and that is what is said of it.
+fn is_directory(file: &File) -> bool {
+    match file.metadata() {
+        Ok(m) => m.is_dir(),
+        Err(_) => false,
+    }
+}
+
+// One byte is read, and the file is then read from its start.
+fn measure(file: &mut File) -> Result<u64, Error> {
+    let mut byte = [0u8; 1];
+    file.read(&mut byte)?;
+    let m = file.metadata()?;
+    file.rewind()?;
+    Ok(m.len())
+}
+
+// How long the file is, and it is then read from its start; or nothing, after it was said why not.
+pub(crate) fn length(rt: HostRuntime, file: &mut File, name: &[u8]) -> Option<u64> {
+    if !is_regular(file) {
+        if !is_directory(file) {
+            say_not_regular(rt, name);
+            return None;
         }
     }
-    libc::lseek(fd, 1, libc::SEEK_SET) == 1
-}
-
-pub(crate) fn say_not_regular(name: &[u8]) {
-    say(name, b": not a regular file\n");
-}
-
-// How long the file is, and it is then read from its start; or -1, after it was said why not. A directory can be opened, has places
-// and cannot be read.
-pub(crate) fn length(fd: i32, name: &[u8]) -> i64 {
-    if !is_regular(fd) {
-        say_not_regular(name);
-        return -1;
+    match measure(file) {
+        Ok(size) => Some(size),
+        Err(e) => {
+            fail(rt, name, e);
+            None
+        }
     }
-    let mut byte = [0u8; 1];
-    if libc::read(fd, &mut byte) < 0 {
-        os::fail(name);
-        return -1;
-    }
-    let end = libc::lseek(fd, 0, libc::SEEK_END);
-    if end < 0 {
-        os::fail(name);
-        return -1;
-    }
-    if libc::lseek(fd, 0, libc::SEEK_SET) != 0 {
-        os::fail(name);
-        return -1;
-    }
-    end
 }
 
 // The next block. The file was longer when it was measured, so one that is not whole is a failure too. (Of a regular file one call
 // reads all that is asked for and there.)
-pub(crate) fn read_block(fd: i32, block: &mut [u8], name: &[u8]) -> bool {
-    let got = libc::read(fd, block);
-    if got < 0 {
-        os::fail(name);
-        return false;
+pub(crate) fn read_block(rt: HostRuntime, file: &mut File, block: &mut [u8], name: &[u8]) -> bool {
+    match file.read(block) {
+        Ok(n) => {
+            if n < block.len() {
+                say(rt, name, b": it became shorter while it was read\n");
+                return false;
+            }
+            true
+        }
+        Err(e) => {
+            fail(rt, name, e);
+            false
+        }
     }
-    if io::count(got, block) < block.len() {
-        say(name, b": it became shorter while it was read\n");
-        return false;
-    }
-    true
 }

@@ -4,73 +4,106 @@ ghost use Rattle.io.specs.Counts.{IsPrefixLen};
 ghost use Rattle.salvage.specs.Steps.{Due, Sourced};
 
 use crate::blocks::{judge, put_power_up};
-use crate::input::{is_regular, read_block, say_not_regular};
+use crate::input::{is_regular, open, read_block, say_not_regular};
+use lines::{EIO, PATH, fail, path};
+use std::fs::{File, OpenOptions, remove_file, rename, symlink_metadata};
+use std::io::{Error, ErrorKind, Write};
+use std::process::id;
 
 // Room for a path, and for `.PID.part` behind it.
-const PART: usize = libc::PATH_MAX + 32;
+const PART: usize = PATH + 32;
 
-fn is_link(name: &[u8]) -> bool {
-    let mut path = io::buffer();
-    row::copy(&mut path, name);
-    path[libc::PATH_MAX - 1] = 0;
-    let mut byte = [0u8; 1];
-    libc::readlink(&path, &mut byte) >= 0
+fn is_link(rt: HostRuntime, name: &str) -> bool {
+    match symlink_metadata(&rt, name) {
+        Ok(m) => m.is_symlink(),
+        Err(_) => false,
+    }
+}
+
+fn open_update(rt: HostRuntime, name: &str) -> Result<File, Error> {
+    OpenOptions::new().read(true).write(true).open(&rt, name)
+}
+
+// What may stand under the second file's name.
+#[derive(Clone, Copy)]
+enum There {
+    Nothing,
+    File,
+    Other,
+}
+
+fn what_stands(rt: HostRuntime, name: &[u8]) -> Result<There, Error> {
+    let text = path(name)?;
+    if is_link(rt, text) {
+        return Ok(There::Other);
+    }
+    match open_update(rt, text) {
+        Ok(file) => {
+            if is_regular(&file) {
+                Ok(There::File)
+            } else {
+                Ok(There::Other)
+            }
+        }
+        Err(e) => {
+            if e.kind() == ErrorKind::NotFound {
+                Ok(There::Nothing)
+            } else {
+                Err(e)
+            }
+        }
+    }
 }
 
 // Whether the second file may take this name: nothing stands there, or a file that may be written. A rename would put the file in the
-// place of a link, a device or a pipe too. Otherwise it is said why not.
-fn is_replaceable(name: &[u8]) -> bool {
-    if is_link(name) {
-        say_not_regular(name);
-        return false;
-    }
-    let fd = os::open_update(name);
-    if fd < 0 {
-        if os::errno() == libc::ENOENT {
-            return true;
+// place of a link, a device or a pipe too. Otherwise it is said why not. (What was opened is closed before a word is said: started
+// without standard error, what stands there might have its number.)
+fn is_replaceable(rt: HostRuntime, name: &[u8]) -> bool {
+    match what_stands(rt, name) {
+        Ok(There::Other) => {
+            say_not_regular(rt, name);
+            false
         }
-        os::fail(name);
-        return false;
+        Ok(_) => true,
+        Err(e) => {
+            fail(rt, name, e);
+            false
+        }
     }
-    let regular = is_regular(fd);
-    // before a word is said: started without standard error, what stands there might have its number
-    libc::close(fd);
-    if !regular {
-        say_not_regular(name);
-    }
-    regular
-}
-
-// A process's number without its sign: it has none.
-fn plain_i32(n: i32) -> u64 {
-    if n < 0 {
-        return 0;
-    }
-    n as u64
 }
 
 // The temporary file beside `to`: `to`.PID.part
-fn part_name(part: &mut [u8], to: &[u8]) -> usize
+fn part_name(rt: HostRuntime, part: &mut [u8], to: &[u8]) -> usize
     ensures { result ≤ length part.new }
 {
     let a = lines::add_word(part, 0, to);
-    let b = lines::add_number(part, a, b".", plain_i32(libc::getpid()));
+    let b = lines::add_number(part, a, b".", id(rt.process()) as u64);
     lines::add_word(part, b, b".part")
 }
 
 // What is due for the block that was read is written; `read` is there for that promise alone.
-fn write_block(fd: i32, block: &[u8], read: &[u8], name: &[u8]) -> bool
+fn write_block(rt: HostRuntime, file: &mut File, block: &[u8], read: &[u8], name: &[u8]) -> bool
     requires { Due read.now block.now }
 {
-    if !io::write_all(fd, block) {
-        os::fail(name);
-        return false;
+    match file.write_all(block) {
+        Ok(()) => true,
+        Err(e) => {
+            fail(rt, name, e);
+            false
+        }
     }
-    true
 }
 
 // The first n blocks of the input are judged, and what is written for each goes to the output.
-fn copy(input: i32, output: i32, n: usize, sources: &mut [u16], from: &[u8], part: &[u8]) -> bool
+fn copy(
+    rt: HostRuntime,
+    input: &mut File,
+    output: &mut File,
+    n: usize,
+    sources: &mut [u16],
+    from: &[u8],
+    part: &[u8],
+) -> bool
     requires { (n ≤ 10000) × (length sources.old ≡ 10000) }
     ensures { result ≡ true → Sourced n sources.new }
 {
@@ -80,12 +113,12 @@ fn copy(input: i32, output: i32, n: usize, sources: &mut [u16], from: &[u8], par
     let mut source: u16 = 0;
     let mut i: usize = 0;
     while i < n {
-        if !read_block(input, &mut block, from) {
+        if !read_block(rt, input, &mut block, from) {
             return false;
         }
         source = judge(&block, i as u16, &mut stand_in, source);
         sources[i] = source;
-        if !write_block(output, &stand_in, &block, part) {
+        if !write_block(rt, output, &stand_in, &block, part) {
             return false;
         }
         i += 1;
@@ -93,27 +126,33 @@ fn copy(input: i32, output: i32, n: usize, sources: &mut [u16], from: &[u8], par
     true
 }
 
-// What was written has reached its device, and the descriptor is free.
-fn finish(fd: i32, name: &[u8]) -> bool {
-    if libc::fsync(fd) < 0 {
-        os::fail(name);
-        return false;
+// What was written has reached its device.
+fn finish(rt: HostRuntime, file: &File, name: &[u8]) -> bool {
+    match file.sync_all() {
+        Ok(()) => true,
+        Err(e) => {
+            fail(rt, name, e);
+            false
+        }
     }
-    if libc::close(fd) < 0 {
-        os::fail(name);
-        return false;
-    }
-    true
 }
 
-fn fill(input: i32, output: i32, n: usize, sources: &mut [u16], from: &[u8], part: &[u8]) -> bool
+fn fill(
+    rt: HostRuntime,
+    input: &mut File,
+    output: &mut File,
+    n: usize,
+    sources: &mut [u16],
+    from: &[u8],
+    part: &[u8],
+) -> bool
     requires { (n ≤ 10000) × (length sources.old ≡ 10000) }
     ensures { result ≡ true → Sourced n sources.new }
 {
-    if !copy(input, output, n, sources, from, part) {
+    if !copy(rt, input, output, n, sources, from, part) {
         return false;
     }
-    finish(output, part)
+    finish(rt, output, part)
 }
 
 // How much of a name is the folder in which it stands, with the last /; 0 where it has none.
@@ -130,59 +169,117 @@ fn folder(name: &[u8]) -> usize
     0
 }
 
-fn open_folder(name: &[u8]) -> i32 {
+fn open_folder(rt: HostRuntime, name: &[u8]) -> Result<File, Error> {
     let n = folder(name);
     if n == 0 {
-        return os::open_read(b".");
+        return open(rt, b".");
     }
-    os::open_read(&name[..n])
+    open(rt, &name[..n])
+}
+
+fn sync_folder(rt: HostRuntime, name: &[u8]) -> Result<(), Error> {
+    let file = open_folder(rt, name)?;
+    file.sync_all()
 }
 
 // That a file has this name reaches the device too. Some systems cannot promise that, and the file is there all the same: only that
 // the device fails is said.
-fn settle(name: &[u8]) {
-    let fd = open_folder(name);
-    if libc::fsync(fd) < 0 {
-        if os::errno() == libc::EIO {
-            os::fail(name);
+fn settle(rt: HostRuntime, name: &[u8]) {
+    if let Err(e) = sync_folder(rt, name) {
+        if e.raw_os_error() == Some(EIO) {
+            fail(rt, name, e);
         }
     }
-    libc::close(fd);
+}
+
+fn create(rt: HostRuntime, name: &[u8]) -> Result<File, Error> {
+    let text = path(name)?;
+    OpenOptions::new()
+        .write(true)
+        .create_new(true)
+        .open(&rt, text)
+}
+
+fn unlink(rt: HostRuntime, name: &[u8]) -> Result<(), Error> {
+    let text = path(name)?;
+    remove_file(&rt, text)
+}
+
+fn take_name(rt: HostRuntime, part: &[u8], to: &[u8]) -> Result<(), Error> {
+    let old = path(part)?;
+    let new = path(to)?;
+    rename(&rt, old, new)
+}
+
+// The temporary file is made and filled. Where that fails nothing of it is left.
+fn write_part(
+    rt: HostRuntime,
+    input: &mut File,
+    n: usize,
+    sources: &mut [u16],
+    from: &[u8],
+    part: &[u8],
+) -> bool
+    requires { (n ≤ 10000) × (length sources.old ≡ 10000) }
+    ensures { result ≡ true → Sourced n sources.new }
+{
+    match create(rt, part) {
+        Ok(mut output) => {
+            if !fill(rt, input, &mut output, n, sources, from, part) {
+                let _ = unlink(rt, part);
+                return false;
+            }
+            true
+        }
+        Err(e) => {
+            fail(rt, part, e);
+            false
+        }
+    }
 }
 
 // The second file is written whole under the name `part`, and then takes the name `to`, in the place of what stood there. Where that
 // fails nothing of it is left.
-fn write(input: i32, n: usize, sources: &mut [u16], from: &[u8], part: &[u8], to: &[u8]) -> bool
+fn write(
+    rt: HostRuntime,
+    input: &mut File,
+    n: usize,
+    sources: &mut [u16],
+    from: &[u8],
+    part: &[u8],
+    to: &[u8],
+) -> bool
     requires { (n ≤ 10000) × (length sources.old ≡ 10000) }
     ensures { result ≡ true → Sourced n sources.new }
 {
-    let output = os::create(part);
-    if output < 0 {
-        os::fail(part);
+    if !write_part(rt, input, n, sources, from, part) {
         return false;
     }
-    if !fill(input, output, n, sources, from, part) {
-        os::unlink(part);
+    if let Err(e) = take_name(rt, part, to) {
+        fail(rt, to, e);
+        let _ = unlink(rt, part);
         return false;
     }
-    if os::rename(part, to) < 0 {
-        os::fail(to);
-        os::unlink(part);
-        return false;
-    }
-    settle(to);
+    settle(rt, to);
     true
 }
 
 // The second file is made of the first n blocks. Where it cannot be, that was said, and the answer is false.
-pub(crate) fn make(input: i32, n: usize, sources: &mut [u16], from: &[u8], to: &[u8]) -> bool
+pub(crate) fn make(
+    rt: HostRuntime,
+    input: &mut File,
+    n: usize,
+    sources: &mut [u16],
+    from: &[u8],
+    to: &[u8],
+) -> bool
     requires { (n ≤ 10000) × (length sources.old ≡ 10000) }
     ensures { result ≡ true → Sourced n sources.new }
 {
-    if !is_replaceable(to) {
+    if !is_replaceable(rt, to) {
         return false;
     }
     let mut part = [0u8; PART];
-    let k = part_name(&mut part, to);
-    write(input, n, sources, from, &part[..k], to)
+    let k = part_name(rt, &mut part, to);
+    write(rt, input, n, sources, from, &part[..k], to)
 }

@@ -1,5 +1,6 @@
 // Runs standard input from power-up font 0 with a zero tally, and prints the codes, the cursor and the tally.
 #![tactic(auto)]
+
 ghost use Rattle.std.specs.Prelude.{◌≡◌, ◌≤◌, length, take};
 ghost use Rattle.lines.specs.Lines.{Added, run_from_start};
 ghost use Rattle.show.specs.Report.{place_line, shown_of};
@@ -40,10 +41,11 @@ fn show(out: &mut [u8], input: &[u8]) -> usize
     add_shown(out, r)
 }
 
-fn main() {
+fn main(rt: HostRuntime) {
+    let mut from = rt.stdin();
     let mut input = [0u8; 32769];
-    let n = io::read_full(libc::STDIN_FILENO, &mut input);
+    let n = lines::read_full(&mut from, &mut input);
     let mut out = [0u8; 320];
     let k = show(&mut out, &input[..n]);
-    io::write_all(libc::STDOUT_FILENO, &out[..k]);
+    let _ = rt.write_all(&out[..k]);
 }

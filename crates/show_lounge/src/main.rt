@@ -1,6 +1,7 @@
 // Runs standard input, pairs of a kind and a byte, on the lounge module from reset, and prints the codes, the marks, the cursor
 // and the user characters.
 #![tactic(auto)]
+
 ghost use Rattle.std.specs.Prelude.{◌≡◌, true, ◌++◌, ◌*◌, ◌≤◌, length, take};
 ghost use Rattle.laws.specs.Flags.{flag};
 ghost use Rattle.lines.specs.Lines.{Added, text, each, hex_line};
@@ -10,6 +11,7 @@ ghost use Rattle.show_lounge.specs.Rest.{RanAll, Keeps, ReadBeyond};
 ghost use Rattle.show_lounge.specs.Report.{mark_line, mark_lines, place_line, user_line, shown_of, ShownAll};
 
 use lounge::{Lounge, Ran};
+use std::io::Read;
 use users::Users;
 
 // What is kept of the input beyond the pairs that a run may have: whether there is any, whether its length is odd, and whether a
@@ -152,7 +154,7 @@ fn show(out: &mut [u8], first: &[u8], rest: Rest) -> usize
 
 // What is beyond the first n bytes, if these are as many as a run may have: it is read until the input ends. (Any program ends, so
 // the pieces are counted; no input has so many.)
-fn read_rest(n: usize) -> Rest
+fn read_rest<R: Read>(from: &mut R, n: usize) -> Rest
     ensures { ReadBeyond n result }
 {
     let mut rest = Rest {
@@ -164,18 +166,19 @@ fn read_rest(n: usize) -> Rest
     let mut size = n;
     let mut left: u64 = 0xFFFFFFFFFFFFFFFF;
     while (size == MOST) & (0 < left) {
-        size = io::read_full(libc::STDIN_FILENO, &mut piece);
+        size = lines::read_full(from, &mut piece);
         rest = more(rest, &piece[..size]);
         left -= 1;
     }
     rest
 }
 
-fn main() {
+fn main(rt: HostRuntime) {
+    let mut from = rt.stdin();
     let mut input = [0u8; MOST];
-    let n = io::read_full(libc::STDIN_FILENO, &mut input);
-    let rest = read_rest(n);
+    let n = lines::read_full(&mut from, &mut input);
+    let rest = read_rest(&mut from, n);
     let mut out = [0u8; 512];
     let k = show(&mut out, &input[..n], rest);
-    io::write_all(libc::STDOUT_FILENO, &out[..k]);
+    let _ = rt.write_all(&out[..k]);
 }

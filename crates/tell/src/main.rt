@@ -1,6 +1,7 @@
 // Runs standard input from power-up font 0 with a zero tally that is lent, and tells what each cell shows, what each user character
 // looks like, and the tally.
 #![tactic(auto)]
+
 ghost use Rattle.std.specs.Prelude.{◌≡◌, ◌≤◌, min, length, take};
 ghost use Rattle.interpreter.specs.Run.{RunPromise};
 ghost use Rattle.lines.specs.Lines.{Added, each, run_from_start};
@@ -137,10 +138,11 @@ fn tell(out: &mut [u8], input: &[u8]) -> usize
     add_told(out, r)
 }
 
-fn main() {
+fn main(rt: HostRuntime) {
+    let mut from = rt.stdin();
     let mut input = [0u8; 32769];
-    let n = io::read_full(libc::STDIN_FILENO, &mut input);
+    let n = lines::read_full(&mut from, &mut input);
     let mut out = [0u8; 16384];
     let k = tell(&mut out, &input[..n]);
-    io::write_all(libc::STDOUT_FILENO, &out[..k]);
+    let _ = rt.write_all(&out[..k]);
 }

@@ -1,6 +1,10 @@
 // The files that are named as arguments. What cannot be opened or read is said on standard error, by its name and the system's words.
 ghost use Rattle.std.specs.Prelude.{◌≤◌, length};
 
+use lines::{PATH, arg, fail, path};
+use std::fs::File;
+use std::io::{Error, Read};
+
 // Whether a file could be read, and how many of its bytes stand at the buffer's start.
 #[derive(Clone, Copy)]
 pub(crate) struct Got {
@@ -8,57 +12,56 @@ pub(crate) struct Got {
     pub(crate) size: usize,
 }
 
+const NOT_HAD: Got = Got {
+    had: false,
+    size: 0,
+};
+
 // Reads to the end, or until the buffer is full.
-fn read_all(fd: i32, buf: &mut [u8], name: &[u8]) -> Got
+fn read_all(rt: HostRuntime, file: &mut File, buf: &mut [u8], name: &[u8]) -> Got
     ensures { result.size ≤ length buf.new }
 {
     let mut n: usize = 0;
     while n < buf.len() {
-        let got = libc::read(fd, &mut buf[n..]);
-        if got < 0 {
-            os::fail(name);
-            return Got {
-                had: false,
-                size: 0,
-            };
+        match file.read(&mut buf[n..]) {
+            Ok(0) => return Got { had: true, size: n },
+            Ok(more) => n += more,
+            Err(e) => {
+                fail(rt, name, e);
+                return NOT_HAD;
+            }
         }
-        let more = io::count(got, &buf[n..]);
-        if more == 0 {
-            return Got { had: true, size: n };
-        }
-        n += more;
     }
     Got { had: true, size: n }
 }
 
-fn read_named(name: &[u8], buf: &mut [u8]) -> Got
+fn open(rt: HostRuntime, name: &[u8]) -> Result<File, Error> {
+    let text = path(name)?;
+    File::open(&rt, text)
+}
+
+fn read_named(rt: HostRuntime, name: &[u8], buf: &mut [u8]) -> Got
     ensures { result.size ≤ length buf.new }
 {
-    let fd = os::open_read(name);
-    if fd < 0 {
-        os::fail(name);
-        return Got {
-            had: false,
-            size: 0,
-        };
+    match open(rt, name) {
+        Ok(mut file) => read_all(rt, &mut file, buf, name),
+        Err(e) => {
+            fail(rt, name, e);
+            NOT_HAD
+        }
     }
-    let got = read_all(fd, buf, name);
-    libc::close(fd);
-    got
 }
 
 // The file that an argument names; `what` it is, is said where the argument is no name.
-pub(crate) fn read_arg(k: usize, what: &[u8], buf: &mut [u8]) -> Got
+pub(crate) fn read_arg(rt: HostRuntime, k: usize, what: &[u8], buf: &mut [u8]) -> Got
     ensures { result.size ≤ length buf.new }
 {
-    let mut name = io::buffer();
-    let n = os::arg(k, &mut name);
-    if os::errno() != 0 {
-        os::fail(what);
-        return Got {
-            had: false,
-            size: 0,
-        };
+    let mut name = [0u8; PATH];
+    match arg(rt, k, &mut name) {
+        Ok(n) => read_named(rt, &name[..n], buf),
+        Err(e) => {
+            fail(rt, what, e);
+            NOT_HAD
+        }
     }
-    read_named(&name[..n], buf)
 }

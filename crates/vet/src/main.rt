@@ -1,6 +1,7 @@
 // vet BLOCK PICTURE STRING: whether the bytes of the file STRING give the picture of the file PICTURE, from the block of the file
 // BLOCK (document 02, W11); and why not.
 #![tactic(auto)]
+
 mod input;
 
 ghost use Rattle.std.specs.Prelude.{◌≡◌, ◌≤◌, length, take};
@@ -63,23 +64,23 @@ fn vet(out: &mut [u8], block: &[u8], picture: &[u8], string: &[u8]) -> usize
     add_verdict(out, v)
 }
 
-fn main() {
-    if os::arg_count() != 4 {
-        io::write_all(libc::STDERR_FILENO, b"usage: vet BLOCK PICTURE STRING\n");
+fn main(rt: HostRuntime) {
+    if !lines::has_args(rt, 3) {
+        lines::say(rt, b"usage: vet BLOCK PICTURE STRING\n", b"");
         return;
     }
     let mut block = [0u8; BLOCK_READ];
-    let a = read_arg(1, b"BLOCK", &mut block);
+    let a = read_arg(rt, 1, b"BLOCK", &mut block);
     if !a.had {
         return;
     }
     let mut picture = [0u8; PICTURE_READ];
-    let b = read_arg(2, b"PICTURE", &mut picture);
+    let b = read_arg(rt, 2, b"PICTURE", &mut picture);
     if !b.had {
         return;
     }
     let mut string = [0u8; STRING_READ];
-    let c = read_arg(3, b"STRING", &mut string);
+    let c = read_arg(rt, 3, b"STRING", &mut string);
     if !c.had {
         return;
     }
@@ -90,7 +91,7 @@ fn main() {
         &picture[..b.size],
         &string[..c.size],
     );
-    if !io::write_all(libc::STDOUT_FILENO, &out[..k]) {
-        os::fail(b"standard output");
+    if let Err(e) = rt.write_all(&out[..k]) {
+        lines::fail(rt, b"standard output", e);
     }
 }

@@ -1,11 +1,9 @@
-use Prim.Native.Nat.{◌≤◌, ◌-◌}
 use mathlib.Core.Path.{◌≡◌}
 use native.Mathlib.Omega.{arith}
 use lib.ListN.{length}
-use Rattle.lines.specs.Lines.{Added, each}
+use Rattle.lines.specs.Lines.{each}
 use Rattle.lines.proofs.Laws.{none-added, both-added, each-added, same-added}
 use Rattle.lines.specs.Lines.{code_text, hex_line}
-use borrow.Author.Rules.{rules}
 use Rattle.lines.proofs.add_codes.Goals as goal
 
 pub loop-i-init : goal.loop-i-init

@@ -1,11 +1,7 @@
 use Prim.Native.Nat.{◌≤◌, ◌-◌}
-use mathlib.Core.Path.{◌≡◌}
-use native.Mathlib.Omega.{arith}
 use lib.ListN.{length}
 use Rattle.lines.specs.Lines.{Added, each}
-use Rattle.lines.proofs.Laws.{none-added, both-added, each-added, same-added}
-use Rattle.lines.specs.Lines.{code_text, hex_line}
-use borrow.Author.Rules.{rules}
+use Rattle.lines.specs.Lines.{code_text}
 use Rattle.lines.proofs.add_codes.Given as goal
 
 abbrev pub invariant-loop-i : goal.invariant-loop-i

@@ -1,4 +1,3 @@
-use borrow.Author.Rules.{rules}
 use Rattle.lines.proofs.add_digit.Goals as goal
 
 pub returns : goal.returns

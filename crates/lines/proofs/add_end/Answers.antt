@@ -1,7 +1,6 @@
 use Rattle.lines.specs.Lines.{end_start, end_of, tally_line}
 use Rattle.lines.proofs.Laws.{both-added}
 use borrow.Author.Tests.{eq-eqb, ne_eqb}
-use borrow.Author.Rules.{rules}
 use Rattle.lines.proofs.add_end.Goals as goal
 
 pub returns-then-r-ne0 : goal.returns-then-r-ne0

@@ -1,6 +1,5 @@
 use Rattle.lines.specs.Lines.{refused_line}
 use Rattle.lines.proofs.Laws.{both-added}
-use borrow.Author.Rules.{rules}
 use Rattle.lines.proofs.add_refused.Goals as goal
 
 pub returns : goal.returns

@@ -1,6 +1,5 @@
 use native.Mathlib.Omega.{arith}
 use Rattle.lines.proofs.Laws.{past-added, word-added}
-use borrow.Author.Rules.{rules}
 use Rattle.lines.proofs.add_word.Goals as goal
 
 pub returns-then-out-k : goal.returns-then-out-k

@@ -1,6 +1,5 @@
 use Rattle.lines.specs.Lines.{separator_of}
 use borrow.Author.Tests.{eq-eqb, ne_eqb}
-use borrow.Author.Rules.{rules}
 use Rattle.lines.proofs.separator.Goals as goal
 
 pub returns-then-n-i-eq1 : goal.returns-then-n-i-eq1

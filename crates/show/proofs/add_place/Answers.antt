@@ -1,6 +1,5 @@
 use Rattle.lines.proofs.Laws.{both-added}
 use Rattle.show.specs.Report.{place_line}
-use borrow.Author.Rules.{rules}
 use Rattle.show.proofs.add_place.Goals as goal
 
 pub returns : goal.returns

@@ -1,11 +1,9 @@
-use Prim.Native.Nat.{◌≤◌, ◌-◌}
 use mathlib.Core.Path.{◌≡◌}
 use native.Mathlib.Omega.{arith}
-use lib.ListN.{length, get_or}
-use Rattle.lines.specs.Lines.{Added, each, last_digit}
+use lib.ListN.{length}
+use Rattle.lines.specs.Lines.{each}
 use Rattle.lines.proofs.Laws.{none-added, both-added, each-added, same-added}
 use Rattle.show_lounge.specs.Report.{mark_line}
-use borrow.Author.Rules.{rules}
 use Rattle.show_lounge.proofs.add_marks.Goals as goal
 
 pub loop-i-init : goal.loop-i-init

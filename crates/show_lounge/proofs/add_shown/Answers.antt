@@ -28,7 +28,7 @@ slice_bounds-add_users-end c =
 pub add_users-requires : goal.add_users-requires
 add_users-requires c =
     let s = sized (goal.at.add_users-requires c).Start in
-    let w = c.pre.1 c.if-r-ne0.false in
+    let w = c.requires.1 c.if-r-ne0.false in
     omega (arith, s.users-48, few-users c.args.r.condition (fit c.args.r.condition s w))
 
 pub returns : goal.returns

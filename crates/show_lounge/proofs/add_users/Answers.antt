@@ -1,8 +1,7 @@
-use Prim.Native.Nat.{◌≤◌, ◌-◌, ◌+◌, ◌*◌}
+use Prim.Native.Nat.{◌-◌, ◌+◌, ◌*◌}
 use mathlib.Core.Path.{◌≡◌}
 use native.Mathlib.Omega.{arith}
-use lib.ListN.{length}
-use Rattle.lines.specs.Lines.{Added, each}
+use Rattle.lines.specs.Lines.{each}
 use Rattle.lines.proofs.Laws.{none-added, each-added, same-added}
 use Rattle.show_lounge.specs.Report.{user_line}
 use borrow.Author.Rules.{rules}

@@ -1,11 +1,7 @@
-use Prim.Native.Nat.{◌≤◌, ◌-◌, ◌+◌, ◌*◌}
-use mathlib.Core.Path.{◌≡◌}
-use native.Mathlib.Omega.{arith}
+use Prim.Native.Nat.{◌≤◌, ◌-◌, ◌*◌}
 use lib.ListN.{length}
 use Rattle.lines.specs.Lines.{Added, each}
-use Rattle.lines.proofs.Laws.{none-added, each-added, same-added}
 use Rattle.show_lounge.specs.Report.{user_line}
-use borrow.Author.Rules.{rules}
 use Rattle.show_lounge.proofs.add_users.Given as goal
 
 abbrev pub invariant-loop-i : goal.invariant-loop-i

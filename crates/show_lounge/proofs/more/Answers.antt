@@ -1,6 +1,5 @@
 use Rattle.show_lounge.specs.Rest.{more_of}
 use Rattle.show_lounge.proofs.Laws.{keeps, some-by}
-use borrow.Author.Rules.{rules}
 use Rattle.show_lounge.proofs.more.Goals as goal
 
 pub returns : goal.returns

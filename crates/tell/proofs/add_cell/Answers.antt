@@ -1,6 +1,5 @@
 use Rattle.lines.proofs.Laws.{both-added}
 use Rattle.tell.specs.Report.{cell_line}
-use borrow.Author.Rules.{rules}
 use Rattle.tell.proofs.add_cell.Goals as goal
 
 pub returns : goal.returns

@@ -1,9 +1,5 @@
 use Prim.Native.Nat.{◌≤◌, ◌-◌}
-use mathlib.Core.Path.{◌≡◌}
-use native.Mathlib.Omega.{arith}
 use Rattle.lines.specs.Lines.{Added, each}
-use Rattle.lines.proofs.Laws.{none-added, each-added, same-added}
-use borrow.Author.Rules.{rules}
 use Rattle.tell.specs.Report.{cell_line}
 use Rattle.tell.proofs.add_cells.Given as goal
 

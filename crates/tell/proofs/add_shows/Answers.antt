@@ -1,6 +1,5 @@
 use Rattle.lines.proofs.Laws.{both-added}
 use Rattle.tell.specs.Report.{shows_text}
-use borrow.Author.Rules.{rules}
 use Rattle.tell.proofs.add_shows.Goals as goal
 
 pub returns-in-Blank : goal.returns-in-Blank

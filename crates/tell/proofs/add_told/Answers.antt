@@ -2,7 +2,6 @@ use native.Mathlib.Nat.{le_trans}
 use Rattle.lines.proofs.Laws.{both-added, printed}
 use Rattle.tell.specs.Report.{report_of}
 use Rattle.tell.proofs.Laws.{told-length}
-use borrow.Author.Rules.{rules}
 use Rattle.tell.proofs.add_told.Goals as goal
 
 pub returns : goal.returns

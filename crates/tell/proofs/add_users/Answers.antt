@@ -1,10 +1,8 @@
-use Prim.Native.Nat.{◌≤◌, ◌-◌}
 use mathlib.Core.Path.{◌≡◌, ◌∙◌}
 use native.Mathlib.Omega.{arith}
-use Rattle.lines.specs.Lines.{Added, each}
+use Rattle.lines.specs.Lines.{each}
 use Rattle.lines.proofs.Laws.{none-added, each-added, same-added}
 use Rattle.tell.specs.Report.{user_at}
-use borrow.Author.Rules.{rules}
 use Rattle.tell.proofs.add_users.Goals as goal
 
 pub loop-i-init : goal.loop-i-init

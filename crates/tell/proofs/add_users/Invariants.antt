@@ -1,10 +1,6 @@
 use Prim.Native.Nat.{◌≤◌, ◌-◌}
-use mathlib.Core.Path.{◌≡◌, ◌∙◌}
-use native.Mathlib.Omega.{arith}
 use Rattle.lines.specs.Lines.{Added, each}
-use Rattle.lines.proofs.Laws.{none-added, each-added, same-added}
 use Rattle.tell.specs.Report.{user_at}
-use borrow.Author.Rules.{rules}
 use Rattle.tell.proofs.add_users.Given as goal
 
 abbrev pub invariant-loop-i : goal.invariant-loop-i

@@ -1,5 +1,4 @@
 use Rattle.condition.specs.Condition.{power_up_answer}
-use borrow.Author.Rules.{rules}
 use Rattle.tell.proofs.tell.Goals as goal
 
 pub returns : goal.returns

@@ -1,5 +1,4 @@
 use Rattle.lines.proofs.Laws.{both-added}
-use borrow.Author.Rules.{rules}
 use Rattle.vet.proofs.add_line.Goals as goal
 
 pub returns : goal.returns

@@ -1,5 +1,4 @@
 use Rattle.vet.specs.Line.{verdict_line}
-use borrow.Author.Rules.{rules}
 use Rattle.vet.proofs.add_verdict.Goals as goal
 
 pub returns-in-Refused : goal.returns-in-Refused

@@ -1,7 +1,6 @@
 use native.Mathlib.Nat.{le_trans}
 use Rattle.lines.proofs.Laws.{whole-added}
 use Rattle.vet.proofs.Laws.{line-length}
-use borrow.Author.Rules.{rules}
 use Rattle.vet.proofs.vet.Goals as goal
 
 pub returns : goal.returns

@@ -1,0 +1,13 @@
+use Rattle.lines.proofs.Laws.{none-added, both-added}
+use Rattle.salvage.specs.Salvage.{tail_line}
+use Rattle.salvage.proofs.Telling.{tail-line}
+use Rattle.salvage.proofs.report.add_tail.Goals as goal
+
+pub returns-then-tail-eq0 : goal.returns-then-tail-eq0
+unfolding tail_line
+returns-then-tail-eq0 c = rw c.if-tail-eq0.true (none-added _ _)
+
+pub returns : goal.returns
+returns c =
+    rw (tail-line _ c.if-tail-eq0.false)
+    (both-added c.add_number-at.ensures c.add_word.ensures)
