@@ -333,9 +333,6 @@ fn same_file(b: &mut Bench) {
     }
 }
 
-/// What is said of a name that is no UTF-8 text.
-const NO_TEXT: &str = "Invalid or incomplete multibyte or wide character";
-
 /// Names of every kind, read and written; the longest that can be paths, and longer ones.
 fn names(b: &mut Bench) {
     let file = mixture(&mut b.rng, 9, 2).concat();
@@ -345,16 +342,6 @@ fn names(b: &mut Bench) {
     for name in odd.map(|name| OsString::from_vec(name.to_vec())) {
         b.lay(&file, None);
         let call = b.call(OsStr::new("in"), &name);
-        if name.to_str().is_none() {
-            // of a name that is no text it is said that it is none
-            b.fails("a name that is no text", call, &[OUT], NO_TEXT);
-            let call = b.call(&name[..], OsStr::new("again"));
-            b.fails("a name that is no text, missing", call, &[IN], NO_TEXT);
-            b.folder.put(&name, &file);
-            let call = b.call(&name[..], OsStr::new("again"));
-            b.fails("a name that is no text, read", call, &[IN], NO_TEXT);
-            continue;
-        }
         b.works("an odd name", call, &file, &name);
         let second = fs::read(b.folder.at(&name)).unwrap_or_default();
         let call = b.call(&name[..], OsStr::new("again"));

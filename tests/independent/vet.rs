@@ -46,7 +46,6 @@ const DENIED: [&str; 3] =
 
 const NAMES: [&str; 3] = ["block", "picture", "string"];
 const MISSING: &str = "No such file or directory";
-const NO_TEXT: &str = "Invalid or incomplete multibyte or wide character";
 
 /// What the three files hold.
 type Files = [Vec<u8>; 3];
@@ -269,16 +268,10 @@ fn names(v: &mut Vet) {
             names[i] = name.clone();
             v.lay(&files);
             let call = v.call(&names);
-            // of a name that is no text it is said that it is none, whether a file has it or not
-            let text = name.to_str().is_some();
-            v.b.fails("an odd name, missing", call, &[Whose::Name(i)], if text { MISSING } else { NO_TEXT });
+            v.b.fails("an odd name, missing", call, &[Whose::Name(i)], MISSING);
             v.b.folder.put(&name, &files[i]);
             let call = v.call(&names);
-            if text {
-                v.prints("an odd name", call, &files);
-            } else {
-                v.b.fails("a name that is no text", call, &[Whose::Name(i)], NO_TEXT);
-            }
+            v.prints("an odd name", call, &files);
         }
     }
     v.lay(&files);
