@@ -42,12 +42,13 @@ use Rattle.moves.proofs.Grid.{listed, grid, grid-is}
 use Rattle.moves.proofs.Rule.{ruled}
 
 pub bench : AllHold sheet
-unfolding power_up run_of step_at is_char is_user found_in limit_of room_of write_of push_of right_of scroll_of scrolled shifted line_start
-    control_of left_of down_of return_of clear_of escape_of position_of data_of define_of removed without with_youngest put_of total_of
-    quick_at write_busy control_busy escape_busy right_scrolls down_scrolls line_shifts shows_of shows_code dots_up_to dot_answer lit_answer
-    lookup_of well_formed numbers_good scroll_good all_up_to places_formed absent held_formed escape_good index_agrees same_bytes index_of
-    entries_from character_at dot_of lit_of lit_up_to wrong left next down move near1 near2 dist leaves first_byte path_of path flagged
-    plan_of plan clear_wins either_by on_move lacks some_lacks refusal_by plan_refusal
+unfolding power_up run_of step_at is_char is_user found_in limit_of room_of write_of push_of right_of scroll_of scrolled shifted
+    line_start control_of left_of down_of return_of clear_of escape_of position_of data_of define_of removed without with_youngest
+    put_of total_of quick_at write_busy control_busy escape_busy right_scrolls down_scrolls line_shifts shows_of shows_code
+    dots_up_to dot_answer lit_answer lookup_of well_formed numbers_good scroll_good all_up_to places_formed absent held_formed
+    escape_good index_agrees same_bytes index_of entries_from character_at dot_of lit_of lit_up_to wrong left next down move near1
+    near2 dist leaves first_byte path_of path flagged plan_of plan clear_wins either_by on_move lacks some_lacks refusal_by
+    plan_refusal
 bench = (
   (refl, refl),
   (
@@ -82,48 +83,50 @@ bench = (
 
 -- and the cases for two fonts
 pub fonts-bench : AllHold fonts_sheet
-unfolding power_up run_of step_at is_char is_user found_in limit_of room_of control_of escape_of position_of well_formed numbers_good
-    scroll_good all_up_to places_formed absent held_formed escape_good index_agrees same_bytes index_of entries_from left next down move
-    near1 near2 dist line_start leaves first_byte path_of path flagged wrong_for switch fonts_plan_of fonts_plan clear_wins either_by
-    clear_of on_move on_switch lacks some_lacks refusal_by fonts_refusal
+unfolding power_up run_of step_at is_char is_user found_in limit_of room_of control_of escape_of position_of well_formed
+    numbers_good scroll_good all_up_to places_formed absent held_formed escape_good index_agrees same_bytes index_of entries_from
+    left next down move near1 near2 dist line_start leaves first_byte path_of path flagged wrong_for switch fonts_plan_of
+    fonts_plan clear_wins either_by clear_of on_move on_switch lacks some_lacks refusal_by fonts_refusal
 fonts-bench = ((refl, refl), ((refl, refl), ((refl, refl), tt)))
 
 -- and the cases that may start from a clear
 pub clear-bench : AllHold clear_sheet
-unfolding power_up run_of step_at is_char is_user found_in limit_of room_of write_of right_of control_of escape_of data_of define_of removed
-    without with_youngest put_of clear_of well_formed numbers_good scroll_good all_up_to places_formed absent held_formed escape_good
-    index_agrees same_bytes index_of entries_from wrong left next down move near1 near2 dist line_start leaves first_byte path_of path
-    flagged plan_of plan wrong_for switch fonts_plan_of fonts_plan clear_wins either_by on_move on_switch lacks some_lacks refusal_by
-    plan_refusal fonts_refusal
+unfolding power_up run_of step_at is_char is_user found_in limit_of room_of write_of right_of control_of escape_of data_of
+    define_of removed without with_youngest put_of clear_of well_formed numbers_good scroll_good all_up_to places_formed absent
+    held_formed escape_good index_agrees same_bytes index_of entries_from wrong left next down move near1 near2 dist line_start
+    leaves first_byte path_of path flagged plan_of plan wrong_for switch fonts_plan_of fonts_plan clear_wins either_by on_move
+    on_switch lacks some_lacks refusal_by plan_refusal fonts_refusal
 clear-bench = ((refl, refl), ((refl, refl), ((refl, refl), ((refl, refl), ((refl, refl), ((refl, refl), tt))))))
 
 -- and the cases for the tally
 pub tally-bench : AllCount tally_sheet
-unfolding power_up step_at is_char is_user found_in limit_of room_of write_of right_of control_of down_of escape_of total_of quick_at
-    write_busy control_busy escape_busy right_scrolls down_scrolls line_shifts well_formed numbers_good scroll_good all_up_to places_formed
-    held_formed escape_good index_agrees same_bytes index_of entries_from absent within_limit tallied run_refusal run_answer
+unfolding power_up step_at is_char is_user found_in limit_of room_of write_of right_of control_of down_of escape_of total_of
+    quick_at write_busy control_busy escape_busy right_scrolls down_scrolls line_shifts well_formed numbers_good scroll_good
+    all_up_to places_formed held_formed escape_good index_agrees same_bytes index_of entries_from absent within_limit tallied
+    run_refusal run_answer
 tally-bench = ((refl, refl), ((refl, refl), ((refl, refl), tt)))
 
 -- and the cases for reels
 pub reel-bench : AllHold reel_sheet
-unfolding power_up run_of step_at is_char is_user found_in limit_of room_of write_of right_of control_of left_of down_of return_of clear_of
-    well_formed numbers_good scroll_good all_up_to places_formed absent held_formed escape_good index_agrees same_bytes index_of
-    entries_from wrong left next down move near1 near2 dist line_start leaves first_byte path_of path flagged plan_of plan clear_wins
-    either_by on_move lacks some_lacks refusal_by plan_refusal pictures_of plans_of first_refused whole_refusal stop_of
+unfolding power_up run_of step_at is_char is_user found_in limit_of room_of write_of right_of control_of left_of down_of return_of
+    clear_of well_formed numbers_good scroll_good all_up_to places_formed absent held_formed escape_good index_agrees same_bytes
+    index_of entries_from wrong left next down move near1 near2 dist line_start leaves first_byte path_of path flagged plan_of
+    plan clear_wins either_by on_move lacks some_lacks refusal_by plan_refusal pictures_of plans_of first_refused whole_refusal
+    stop_of
 reel-bench = ((refl, refl), (refl, (refl, (refl, ((refl, refl), tt)))))
 
 -- and the cases for getting a lost module back
 pub recovery-bench : AllHold recovery_sheet
-unfolding power_up run_of step_at is_char is_user found_in limit_of room_of write_of right_of control_of escape_of data_of define_of removed
-    without with_youngest put_of well_formed numbers_good scroll_good all_up_to places_formed absent held_formed escape_good index_agrees
-    same_bytes index_of entries_from get_back lost recover_refusal
+unfolding power_up run_of step_at is_char is_user found_in limit_of room_of write_of right_of control_of escape_of data_of
+    define_of removed without with_youngest put_of well_formed numbers_good scroll_good all_up_to places_formed absent held_formed
+    escape_good index_agrees same_bytes index_of entries_from get_back lost recover_refusal
 recovery-bench =
     ((refl, refl, refl), ((refl, refl, refl), ((refl, refl, refl), ((refl, refl), ((refl, refl), (((refl, refl), refl), tt))))))
 
 -- and the cases for the index of user codes
 pub index-bench : AllHold index_sheet
-unfolding power_up run_of step_at is_char is_user found_in limit_of room_of control_of escape_of data_of define_of removed without with_youngest
-    put_of index_of entries_from
+unfolding power_up run_of step_at is_char is_user found_in limit_of room_of control_of escape_of data_of define_of removed without
+    with_youngest put_of index_of entries_from
 index-bench = (refl, (refl, ((refl, refl), ((refl, refl, refl), (refl, (refl, tt))))))
 
 -- and the table of the move bytes, computed whole

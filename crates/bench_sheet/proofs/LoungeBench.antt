@@ -13,11 +13,10 @@ use Rattle.lounge.specs.Shows.{shows_of, level_of, seen_of, view_answer}
 use Rattle.bench_sheet.specs.LoungeSheet.{AllHoldOf, lounge_sheet}
 
 pub lounge-bench : AllHoldOf lounge_sheet
-unfolding reset_of run_of step_of command_of line_reset_of home_in written_at data_of area_of dimmed_by control_of marking_of is_char write_of
-    after_write push_of return_of tab_of scroll_of cancelled marked_area is_pair has_mark mark_of well_formed scroll_formed numbers_formed
-    is_area
-    view_answer seen_of level_of shows_of line_start scrolled shifted cleared_line all_up_to is_user found_in limit_of room_of put_of removed
-    without with_youngest define_of absent places_formed users_formed held_formed
+unfolding reset_of run_of step_of command_of line_reset_of home_in written_at data_of area_of dimmed_by control_of marking_of
+    is_char write_of after_write push_of return_of tab_of scroll_of cancelled marked_area is_pair has_mark mark_of well_formed
+    scroll_formed numbers_formed is_area view_answer seen_of level_of shows_of line_start scrolled shifted cleared_line all_up_to
+    is_user found_in limit_of room_of put_of removed without with_youngest define_of absent places_formed users_formed held_formed
 lounge-bench = (
   (refl, refl, refl, refl, refl),
   (

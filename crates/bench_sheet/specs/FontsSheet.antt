@@ -38,6 +38,6 @@ fonts_sheet =
       bytes = 0x19 ∷ 0x1a ∷ 0x1b ∷ 0x48 ∷ 0x05 ∷ [];
       holds = λ c busy.
           (fonts_refusal c (replicate 40 0x41) in_turn 39 104 ≡ 0)
-              × (length (either_fonts_plan c (replicate 40 0x41) in_turn 39) ≡ 104);
+          × (length (either_fonts_plan c (replicate 40 0x41) in_turn 39) ≡ 104);
     }
     ∷ []

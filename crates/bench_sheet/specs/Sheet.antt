@@ -84,7 +84,7 @@ sheet =
       bytes = 0x1b ∷ 0x43 ∷ 0x21 ∷ 0x84 ∷ 0x10 ∷ 0x02 ∷ 0x00 ∷ 0x01 ∷ [];
       holds = λ c busy.
           (dots_up_to c 0x21 35 ≡ 3 ∷ 8 ∷ 13 ∷ 18 ∷ 33 ∷ []) × (lit_answer c 0x21 ≡ record { refusal = 0; value = 5 })
-              × (busy ≡ 55);
+          × (busy ≡ 55);
     }
     -- 8. 1B 48 14 08: cursor 20
     ∷ record { bytes = 0x1b ∷ 0x48 ∷ 0x14 ∷ 0x08 ∷ []; holds = λ c busy. c.cursor ≡ 20 }

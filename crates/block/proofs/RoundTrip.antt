@@ -29,8 +29,8 @@ pub condition-back : (c : Condition) → Sized c → Indexed c → condition_in 
 condition-back c z x = ap condition_in (block-parts c) ∙ back-with c _ z x
 
 started : (c : Condition)
-    → (eqb (get_or (block_of c) 0 0) 0x56 && eqb (get_or (block_of c) 1 0) 0x4b && eqb (get_or (block_of c) 2 0) 0x01 && true && true)
-    ≡ true
+    → (eqb (get_or (block_of c) 0 0) 0x56 && eqb (get_or (block_of c) 1 0) 0x4b && eqb (get_or (block_of c) 2 0) 0x01
+    && true && true) ≡ true
 unfolding block_of seal_of body_of packed_of head_of
 started c = refl
 

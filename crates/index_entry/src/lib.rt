@@ -1,6 +1,7 @@
 // A condition given by value with an index of its own, for the tests of the compiled code: what each call that takes a condition
 // refuses it by. No block can hold such an index, and no host is given this.
 #![tactic(auto)]
+
 ghost use Rattle.std.specs.Prelude.{◌≡◌, length};
 ghost use Rattle.condition.specs.Set.{with_index};
 ghost use Rattle.layout.specs.Layout.{unpacked_of};

@@ -174,7 +174,8 @@ fewest-20 n r f h =
     let q : 10 ^ (r - 1) ≤ n = f.2 (omega arith) in
     omega arith)
 
-pub decimal-is : (d : List ℕ) (n r : ℕ) → IsDigitCount 10 1 n r → n < 2 ^ 64 → take r d ≡ last_digits 10 r n → take r d ≡ decimal_of n
+pub decimal-is : (d : List ℕ) (n r : ℕ) → IsDigitCount 10 1 n r → n < 2 ^ 64 → take r d ≡ last_digits 10 r n
+    → take r d ≡ decimal_of n
 unfolding decimal_of
 decimal-is d n r f h e = e ∙ digits_decimal 20 r n f (fewest-20 n r f h)
 

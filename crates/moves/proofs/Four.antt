@@ -81,7 +81,8 @@ is-second p xs ys e l =
 
 -- computed for each place and each other, once
 all_ways : grid path ≡ grid of_four
-unfolding listed grid left next down line_start move near1 near2 dist leaves first_byte path_of path onward sideways from_start of_four
+unfolding listed grid left next down line_start move near1 near2 dist leaves first_byte path_of path onward sideways from_start
+    of_four
 all_ways = refl
 
 module _ (a b : ℕ) (ha : a < 40) (hb : b < 40) where

@@ -119,7 +119,8 @@ unfolding report_by
 report-length sources n tail h g b =
     let own = count_of (own_source sources) n in
     let most = count_most (own_source sources) n in
-    let rows = each_below (λ k. line_by k (get_or sources k 0)) 25 n (λ k l. line-length k (get_or sources k 0) (omega arith) (b k l)) in
+    let rows = each_below (λ k. line_by k (get_or sources k 0)) 25 n
+    (λ k l. line-length k (get_or sources k 0) (omega arith) (b k l)) in
     let last = counts-length own (n - own) (omega arith) (omega arith) in
     simp length-append (omega (arith, rows, tail-length tail g, last))
 

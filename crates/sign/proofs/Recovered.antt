@@ -59,7 +59,7 @@ host-exactly b out r left p =
   where
     told : read_refusal b ≡ 0
         → (recover_refusal (condition_in b) (length out) ≡ 11) ↔
-            ((well_formed (condition_in b) ≡ true) × NoWayBack (condition_in b))
+        ((well_formed (condition_in b) ≡ true) × NoWayBack (condition_in b))
     told z = exactly (condition_in b) (length out) (sized-in b (omega (arith, (accepted b z).long)))
 
 -- run on the block, the bytes leave that of power-up for the default font

@@ -76,7 +76,7 @@ host_plan_refusal b codes cursor out =
 unfoldable pub host_fonts_refusal : List ℕ → List ℕ → List ℕ → ℕ → List ℕ → ℕ
 host_fonts_refusal b codes fonts cursor out =
     host_refusal_by (eqb (length codes) 40 && eqb (length fonts) 40) b
-        (fonts_refusal (condition_in b) codes fonts cursor (length out))
+    (fonts_refusal (condition_in b) codes fonts cursor (length out))
 
 -- The answer r of a plan, or of a recovery, which is its length or 256 plus the refusal, and what it leaves in the buffer, by its
 -- refusal number and its bytes: a refused one leaves it as it was, and an answer below 256 says that so many bytes stand at its
@@ -111,7 +111,7 @@ reel_stop_by long b codes cursors room =
 abbrev pub ReelsIn : List ℕ → List ℕ → List ℕ → List ℕ → List ℕ → Reeled → Type 0
 ReelsIn b codes cursors before after r =
     Promise (reel_stop_by (matching codes cursors) b codes cursors (length before)) (condition_in b)
-        (pictures_of codes cursors) before
+    (pictures_of codes cursors) before
     after r
 
 -- the lengths that have to be right: codes 40 for each asked cursor, and 64 lengths

@@ -1,5 +1,6 @@
 // The C host program's entry points: numbers and byte slices only.
 #![tactic(auto)]
+
 ghost use Rattle.std.specs.Prelude.{◌≡◌, ◌+◌, ◌*◌, ◌/◌, ◌%◌, ◌≤◌, ◌<◌, length};
 ghost use Rattle.questions.specs.Questions.{host_view, host_dot, host_underline, host_lit};
 ghost use Rattle.sign.specs.Calls.{number_at, four_bytes, tally_at, tally_bytes};

@@ -23,7 +23,7 @@ line-length (Cell place) = simp length-append (omega (arith, decimal-length plac
 line-length Cursor = omega arith
 line-length (Yes excess) = simp length-append (omega (arith, decimal-length excess))
 
--- Of BLOCK 513 bytes decide, of PICTURE 42 and of STRING 32,769: so many are read, and the line is that of the whole files -------------
+-- Of BLOCK 513 bytes decide, of PICTURE 42 and of STRING 32,769: so many are read, and the line is that of the whole files --------
 
 module _ (m : ℕ) where
   -- a file of another length than m is cut to one of another length, and one of that length is not cut

@@ -1,20 +1,18 @@
 -- What a verdict means: a yes exactly where the string gives the picture, and the excess over the shortest.
-use Prim.Native.Nat.{ℕ, ◌+◌, ◌-◌, ◌≤◌, ◌<◌}
+use Prim.Native.Nat.{ℕ, ◌≤◌, ◌<◌}
 use mathlib.Core.Path.{◌≡◌, refl, sym, ap, ◌∙◌}
-use mathlib.Core.Logic.{◌↔◌}
-use mathlib.Core.Bool.{Bool, true, false, cond, not, ◌&&◌, and-false}
+use mathlib.Core.Bool.{Bool, true, false, not, ◌&&◌}
 use mathlib.Core.List.{List, [], ◌∷◌}
 use native.Mathlib.Omega.{arith}
 use lib.Dec.{eqb, ltb, leb}
 use lib.ListN.{length, get_or, replicate, length-replicate, get_or-replicate}
 use lib.Seq.{ext_get_or}
 use borrow.Author.Tests.{eq-eqb, eqb-true, eqb-false, ne_eqb, ltb-true, ltb-false, lt-ltb, not-false}
-use Rattle.laws.proofs.Tests.{by_cases, by_equal, clash, both, passed}
+use Rattle.laws.proofs.Tests.{by_cases, clash, both, passed}
 use Rattle.condition.specs.declared.Condition.{Condition}
 use Rattle.condition.specs.declared.Outcome.{Outcome}
 use Rattle.condition.specs.Condition.{well_formed}
 use Rattle.condition.specs.Bytes.{run_of}
-use Rattle.condition.specs.Steps.{either_start}
 use Rattle.condition.proofs.Good.{Sized, run-sized}
 use Rattle.layout.specs.Layout.{condition_in}
 use Rattle.layout.proofs.PackedBack.{sized-in}
@@ -22,9 +20,8 @@ use Rattle.block.specs.Reading.{read_refusal}
 use Rattle.block.proofs.RoundTrip as R
 use Rattle.host.specs.Host.{opened_of, host_refusal_by}
 use Rattle.host.proofs.Once.{damaged-by, in_block, left-to}
-use Rattle.planner.specs.Plan.{flagged, Pictured}
+use Rattle.planner.specs.Plan.{flagged}
 use Rattle.planner.specs.Fonts.{wrong_cell}
-use Rattle.planner.specs.Clear.{either_plan}
 use Rattle.planner.specs.Answer.{plan_refusal}
 use Rattle.planner.proofs.Costs.{flagged-none, unflagged}
 use Rattle.planner.proofs.Refusals.{unformed, accepted, plan-delivers}
@@ -160,7 +157,7 @@ pub vet-unformed : (c : Condition) (wanted : List ℕ) (asked : ℕ) (string : L
 unfolding vet_refusal long_refusal plan_refusal
 vet-unformed c wanted asked string h w = rw (unformed (eqb (length wanted) 40) _ _ _ c wanted h w)
 
--- What `vet` answers ----------------------------------------------------------------------------------------------------------------
+-- What `vet` answers --------------------------------------------------------------------------------------------------------------
 
 module _ (c : Condition) (wanted : List ℕ) (asked : ℕ) (string : List ℕ) (s : Sized c) (n : ℕ)
     (e : n ≡ vet_refusal c wanted asked string) where
@@ -176,7 +173,7 @@ module _ (c : Condition) (wanted : List ℕ) (asked : ℕ) (string : List ℕ) (
   unfolding verdict_by
   vet-judged z r q = by_number r (q ∙ rw (← e, z))
 
--- What `vet_block` answers ----------------------------------------------------------------------------------------------------------
+-- What `vet_block` answers --------------------------------------------------------------------------------------------------------
 
 module _ (b wanted : List ℕ) (asked : ℕ) (string : List ℕ) where
   block-accepted : block_refusal b wanted asked string ≡ 0
@@ -232,7 +229,7 @@ excess-most b wanted asked string Cursor v = omega arith
 excess-most b wanted asked string (Yes excess) v =
     omega (arith, (v.excess refl).over, (block-accepted b wanted asked string (v.exactly.0 refl).0).2)
 
--- What decides a verdict -----------------------------------------------------------------------------------------------------------
+-- What decides a verdict ----------------------------------------------------------------------------------------------------------
 
 -- what is no block is refused by 1, whatever else is wrong
 pub no_block : (b wanted : List ℕ) (asked : ℕ) (string : List ℕ) → (length b ≡ 512 → ⊥)

@@ -1,19 +1,17 @@
 -- One step of a string is the module's: what the planner's steps do where nothing is half received, in mode 1.
 use Prim.Native.Nat.{ℕ, zero, suc, ◌+◌, ◌≤◌, ◌<◌}
 use mathlib.Core.Path.{◌≡◌, refl, sym, ap, ◌∙◌, subst}
-use mathlib.Core.Bool.{Bool, true, false, cond, not, ◌&&◌, ◌||◌, and-false}
+use mathlib.Core.Bool.{Bool, true, false, not, ◌&&◌, ◌||◌}
 use mathlib.Core.List.{List, [], ◌∷◌}
-use native.Mathlib.Numerals.{add-one}
 use native.Mathlib.Omega.{arith}
 use lib.Dec.{eqb, leb}
 use lib.ListN.{length, get_or, take, drop, set}
-use lib.Seq.{take-nil}
-use borrow.Author.Tests.{eqb-true, eq-eqb, le-leb, lt-leb, leb-true}
+use borrow.Author.Tests.{eqb-true, le-leb, lt-leb, leb-true}
 use Rattle.laws.proofs.Tests.{by_cases, clash, both}
 use Rattle.users.specs.Users.{is_user, found_in}
 use Rattle.index.proofs.Entries.{index_at, looked-up}
 use Rattle.condition.specs.declared.Condition.{Condition}
-use Rattle.condition.specs.declared.Pending.TheVariants.{Nothing, Escape, Position}
+use Rattle.condition.specs.declared.Pending.TheVariants.{Nothing, Escape}
 use Rattle.condition.specs.Set.{with_cells, with_cursor, with_pending}
 use Rattle.condition.specs.Bytes.{is_char, escape_of, step_at, step_of, run_of}
 use Rattle.condition.specs.Steps.{is_move, step_byte, low_after, owed, next_byte, in_order}

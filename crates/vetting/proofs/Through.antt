@@ -16,8 +16,8 @@ use Rattle.users.specs.Users.{is_user}
 use Rattle.condition.specs.declared.Condition.{Condition}
 use Rattle.condition.specs.Condition.{idle}
 use Rattle.condition.specs.Set.{with_cells, with_scrolling, with_pending}
-use Rattle.condition.specs.Bytes.{is_char, clear_of, run_of, step_of}
-use Rattle.condition.specs.Steps.{is_move, step_byte, owed, next_byte, in_order, reading_order, clear_byte, either_start}
+use Rattle.condition.specs.Bytes.{is_char, clear_of, run_of}
+use Rattle.condition.specs.Steps.{owed, in_order, reading_order, clear_byte, either_start}
 use Rattle.condition.proofs.Characters.{no_char, no-user}
 use Rattle.condition.proofs.Good.{Indexed, good}
 use Rattle.moves.specs.Moves.{next}
@@ -32,7 +32,7 @@ use Rattle.vetting.specs.declared.Verdict.{Verdict}
 use Rattle.vetting.specs.declared.Verdict.TheVariants.{Byte}
 use Rattle.vetting.specs.declared.steps.Moved.{Moved}
 use Rattle.vetting.specs.Steps.{char_in, clears_first, clears_in, move_of}
-use Rattle.vetting.specs.Vetting.{permitted, longest, stop_of, wrong_after, picture_verdict, excess_over, judged_of}
+use Rattle.vetting.specs.Vetting.{permitted, longest, wrong_after, picture_verdict, excess_over, judged_of}
 use Rattle.vetting.proofs.Stepping.{char_is, standing, goes_on, Went, Stuck, one_more, stopped}
 use Rattle.vetting.proofs.Stepping.{write-went, write-stuck, read-went, read-stuck}
 
@@ -83,7 +83,7 @@ module _ {c : Condition} {string : List ℕ} {i p lo : ℕ} {cs fs : List ℕ} (
     longest-is zero l = omega arith
     longest-is (suc n) l =
         by_equal i (suc n) (λ e. let t : permitted c (take (suc n) string) ≡ true = subst
-            (λ (m : ℕ). permitted c (take m string) ≡ true) e so_far in rw t (sym e))
+        (λ (m : ℕ). permitted c (take m string) ≡ true) e so_far in rw t (sym e))
         (λ d. rw (no_longer (suc n) (omega arith)) (longest-is n (omega arith)))
 
     pub stops : (wanted : List ℕ) (asked : ℕ) → i < length string → Byte i ≡ judged_of c wanted asked string
@@ -107,7 +107,7 @@ module _ {c : Condition} {string : List ℕ} {i p lo : ℕ} {cs fs : List ℕ} (
       v.left ∙ ap (run_of (standing c p cs fs)) (ap (λ (m : ℕ). drop m string) e ∙ drop-length string) in
       rw (t, d)
 
--- Where it starts -------------------------------------------------------------------------------------------------------------------
+-- Where it starts -----------------------------------------------------------------------------------------------------------------
 
 -- reading order from a condition as it is, and from it cleared
 module _ (c : Condition) (r : Ready c) where
@@ -175,7 +175,7 @@ module _ (c : Condition) (r : Ready c) where
         left = ap (λ (d : Condition). run_of d string) standing-is;
       }
 
--- What the loop keeps -----------------------------------------------------------------------------------------------------------------
+-- What the loop keeps -------------------------------------------------------------------------------------------------------------
 
 -- with the rows' lengths
 pub record Judging (c : Condition) (string : List ℕ) (i p lo : ℕ) (cs fs : List ℕ) : Type 0 where

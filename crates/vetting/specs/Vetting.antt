@@ -42,7 +42,7 @@ stop_of c string = longest c string (length string)
 unfoldable pub wrong_after : Condition → List ℕ → List ℕ → List ℕ
 wrong_after c wanted string =
     flagged (λ i. wrong_cell (get_or (run_of c string).codes i 0) (get_or (run_of c string).fonts i 0)
-        (get_or wanted i 0) c.font) 40 0
+    (get_or wanted i 0) c.font) 40 0
 
 -- by these cells: the lowest; where there is none, the cursor, where that is not as asked; else yes
 abbrev pub picture_verdict : List ℕ → Bool → ℕ → Verdict

@@ -1,6 +1,7 @@
 // Vetting: does a string of other people's bytes use only the planner's steps in reading order, and give the wanted picture and
 // cursor? Yes or why not; and how much longer it is than the plan.
 #![tactic(auto)]
+
 ghost use Rattle.std.specs.Prelude.{◌≡◌, ◌-◌, ◌≤◌, length};
 ghost use Rattle.planner.specs.Answer.{plan_refusal};
 ghost use Rattle.vetting.specs.Vetting.{long_refusal, Vets, VetsBlock};

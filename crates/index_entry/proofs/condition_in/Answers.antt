@@ -4,7 +4,6 @@ use mathlib.Core.Path.{ap}
 use lib.ListN.{replicate, length-replicate}
 use Rattle.condition.specs.Set.{with_index}
 use Rattle.row.proofs.Laws.{filled}
-use borrow.Author.Rules.{rules}
 use Rattle.index_entry.proofs.condition_in.Goals as goal
 
 pub returns : goal.returns

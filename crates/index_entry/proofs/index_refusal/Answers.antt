@@ -1,6 +1,5 @@
 use Rattle.index_entry.specs.Entry.{index_refusal}
 use borrow.Author.Tests.{eq-eqb, ne_eqb}
-use borrow.Author.Rules.{rules}
 use Rattle.index_entry.proofs.index_refusal.Goals as goal
 
 pub returns-then-entries-ne-ENTRIES : goal.returns-then-entries-ne-ENTRIES

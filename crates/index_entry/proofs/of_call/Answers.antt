@@ -1,6 +1,5 @@
 use Rattle.laws.proofs.Tests.{tests}
 use Rattle.index_entry.specs.Entry.{call_refusal}
-use borrow.Author.Rules.{rules}
 use Rattle.index_entry.proofs.of_call.Goals as goal
 
 pub returns-in-0 : goal.returns-in-0

@@ -1,6 +1,5 @@
 use mathlib.Core.Path.{ap}
 use Rattle.planner.specs.declared.Planned.{Planned}
-use borrow.Author.Rules.{rules}
 use Rattle.index_entry.proofs.of_plan.Goals as goal
 
 pub returns : goal.returns

@@ -1,6 +1,5 @@
 use mathlib.Core.Path.{ap}
 use Rattle.reel.specs.declared.Reeled.{Reeled}
-use borrow.Author.Rules.{rules}
 use Rattle.index_entry.proofs.of_reel.Goals as goal
 
 pub returns : goal.returns

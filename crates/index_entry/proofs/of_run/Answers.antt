@@ -1,6 +1,5 @@
 use mathlib.Core.Path.{ap, ◌∙◌}
 use Rattle.interpreter.specs.declared.Ran.{Ran}
-use borrow.Author.Rules.{rules}
 use Rattle.index_entry.proofs.of_run.Goals as goal
 
 pub returns : goal.returns

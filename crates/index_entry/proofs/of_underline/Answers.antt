@@ -1,6 +1,5 @@
 use mathlib.Core.Path.{ap}
 use Rattle.glass.specs.declared.Answer.{Answer}
-use borrow.Author.Rules.{rules}
 use Rattle.index_entry.proofs.of_underline.Goals as goal
 
 pub returns : goal.returns

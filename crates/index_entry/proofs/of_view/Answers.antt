@@ -1,6 +1,5 @@
 use mathlib.Core.Path.{ap}
 use Rattle.glass.specs.declared.Seen.{Seen}
-use borrow.Author.Rules.{rules}
 use Rattle.index_entry.proofs.of_view.Goals as goal
 
 pub returns : goal.returns

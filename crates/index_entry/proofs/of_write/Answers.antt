@@ -1,7 +1,6 @@
 use mathlib.Core.Path.{ap}
 use Rattle.block.specs.declared.Written.{Written}
 use Rattle.block.specs.Writing.{write_answer}
-use borrow.Author.Rules.{rules}
 use Rattle.index_entry.proofs.of_write.Goals as goal
 
 pub returns : goal.returns

@@ -24,7 +24,8 @@ pub returns-then-rest-kinds_formed : goal.returns-then-rest-kinds_formed
 unfolding ran_with
 returns-then-rest-kinds_formed c =
     let some : c.args.rest.some ≡ true = not-false _ c.if-not-rest.false in
-    ran-all _ _ _ (c.refused-then-rest-kinds_formed.ensures ∙ rw (some, c.if-rest.false, ← c.kinds_formed.ensures, c.if-rest-kinds_formed.true))
+    ran-all _ _ _ (c.refused-then-rest-kinds_formed.ensures
+    ∙ rw (some, c.if-rest.false, ← c.kinds_formed.ensures, c.if-rest-kinds_formed.true))
 
 pub returns : goal.returns
 unfolding ran_with

@@ -1,5 +1,4 @@
 use borrow.Author.Tests.{eq-eqb, ne_eqb}
-use borrow.Author.Rules.{rules}
 use Rattle.sign.specs.Calls.{reel_number}
 use Rattle.sign.proofs.reel_number.Goals as goal
 

@@ -1,6 +1,4 @@
 use mathlib.Core.Path.{sym, ◌∙◌}
-use borrow.Author.Tests.{not-true, not-false}
-use borrow.Author.Rules.{rules}
 use Rattle.sign.proofs.Reels.{reel-unmatched, reel-damaged, reel-in}
 use Rattle.sign.proofs.reeled.Goals as goal
 

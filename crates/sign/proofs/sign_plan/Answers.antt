@@ -4,7 +4,6 @@ use Rattle.planner.proofs.Refusals.{unformed}
 use Rattle.sign.specs.Calls.{host_plan_refusal}
 use Rattle.host.proofs.Once.{in_block}
 use Rattle.sign.proofs.Hosted.{plan-short, plan-damaged, plan-done, plan-in}
-use borrow.Author.Rules.{rules}
 use Rattle.sign.proofs.sign_plan.Goals as goal
 
 pub returns-then-codes-ne-CELLS : goal.returns-then-codes-ne-CELLS

@@ -1,10 +1,8 @@
-use borrow.Author.Tests.{not-true, not-false}
 use Rattle.planner.specs.Answer.{fonts_refusal}
 use Rattle.planner.proofs.Refusals.{unformed}
 use Rattle.sign.specs.Calls.{host_fonts_refusal}
 use Rattle.host.proofs.Once.{in_block}
 use Rattle.sign.proofs.Hosted.{plan-short, plan-damaged, plan-done, fonts-in}
-use borrow.Author.Rules.{rules}
 use Rattle.sign.proofs.sign_plan_fonts.Goals as goal
 
 pub returns-then-not-long : goal.returns-then-not-long

@@ -1,5 +1,4 @@
 use Rattle.sign.proofs.Hosted.{power-up-refused, power-up-written}
-use borrow.Author.Rules.{rules}
 use Rattle.sign.proofs.sign_power_up.Goals as goal
 
 pub returns-then-start-ne0 : goal.returns-then-start-ne0

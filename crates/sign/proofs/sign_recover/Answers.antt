@@ -4,7 +4,6 @@ use Rattle.sign.specs.Calls.{host_recover_refusal}
 use Rattle.host.proofs.Once.{in_block}
 use Rattle.sign.proofs.Hosted.{plan-damaged, plan-done}
 use Rattle.sign.proofs.Recovered.{host-exactly, recovers-in}
-use borrow.Author.Rules.{rules}
 use Rattle.sign.proofs.sign_recover.Goals as goal
 
 pub returns-then-got-ne0 : goal.returns-then-got-ne0

@@ -23,5 +23,5 @@ returns-then-lengths-ne-MOST c =
 pub returns : goal.returns
 returns c =
     reel-done _ _ _ _ _ (omega (arith, c.if-lengths-ne-MOST.false)) _ _ _ _ c.reeled-r.ensures
-        (long (goal.at.returns c).After-counts-2-1)
+    (long (goal.at.returns c).After-counts-2-1)
     c.copy.ensures c.reel_number-2.ensures

@@ -1,5 +1,4 @@
 use Rattle.sign.proofs.Hosted.{run_short, run-damaged, run-stopped, run-written}
-use borrow.Author.Rules.{rules}
 use Rattle.sign.proofs.sign_run.Goals as goal
 
 pub returns-then-tally-ne-TALLY : goal.returns-then-tally-ne-TALLY

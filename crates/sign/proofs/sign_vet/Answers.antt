@@ -1,4 +1,3 @@
-use borrow.Author.Rules.{rules}
 use Rattle.sign.proofs.Vetted.{number-most, host-vets}
 use Rattle.sign.proofs.sign_vet.Goals as goal
 

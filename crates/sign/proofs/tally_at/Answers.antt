@@ -1,5 +1,4 @@
 use Rattle.sign.specs.Calls.{tally_at}
-use borrow.Author.Rules.{rules}
 use Rattle.sign.proofs.tally_at.Goals as goal
 
 pub returns : goal.returns

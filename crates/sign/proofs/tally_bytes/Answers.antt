@@ -1,5 +1,4 @@
 use Rattle.sign.specs.Calls.{tally_bytes}
-use borrow.Author.Rules.{rules}
 use Rattle.sign.proofs.tally_bytes.Goals as goal
 
 pub returns : goal.returns

@@ -1,5 +1,4 @@
 use native.Mathlib.Omega.{arith}
-use borrow.Author.Rules.{rules}
 use Rattle.sign.proofs.vet_number.Goals as goal
 
 pub overflow_add-result-in-Yes : goal.overflow_add-result-in-Yes

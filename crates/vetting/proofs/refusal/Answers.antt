@@ -1,6 +1,3 @@
-use Rattle.laws.proofs.Tests.{by_cases}
-use lib.Dec.{ltb, leb}
-use mathlib.Core.Bool.{◌&&◌}
 use borrow.Author.Tests.{lt-ltb, le-ltb}
 use Rattle.vetting.specs.Vetting.{long_refusal}
 use Rattle.vetting.proofs.refusal.Goals as goal

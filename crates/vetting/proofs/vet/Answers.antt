@@ -1,6 +1,5 @@
 use mathlib.Core.Path.{◌≡◌, ap, sym, ◌∙◌}
 use native.Mathlib.Omega.{arith}
-use lib.ListN.{length}
 use borrow.Author.Rules.{rules}
 use Rattle.condition.proofs.Good.{Sized}
 use Rattle.planner.specs.declared.Planned.{Planned}

@@ -1,4 +1,3 @@
-use borrow.Author.Rules.{rules}
 use Rattle.vetting.proofs.Answers.{block-short, block-damaged, block-vetted}
 use Rattle.vetting.proofs.vet_block.Goals as goal
 

@@ -16,7 +16,7 @@ returns-in-10 c = rw (c.down.ensures, c.in-10.is)
 
 pub returns-in-12 : goal.returns-in-12
 unfolding control_of
-returns-in-12 c = rw (c.go_to.ensures, c.in-12.is)
+returns-in-12 c = rw c.in-12.is cc
 
 pub returns-in-13 : goal.returns-in-13
 unfolding control_of
@@ -28,7 +28,7 @@ returns-in-14 c = rw (c.clear.ensures, c.in-14.is)
 
 pub returns-in-15 : goal.returns-in-15
 unfolding control_of
-returns-in-15 c = rw (c.clear-in-15.ensures, c.in-15.is)
+returns-in-15 c = rw c.in-15.is cc
 
 pub returns-in_default : goal.returns-in_default
 unfolding control_of

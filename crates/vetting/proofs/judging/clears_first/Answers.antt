@@ -2,7 +2,6 @@ use Prim.Native.Nat.{◌<◌}
 use lib.ListN.{length}
 use native.Mathlib.Omega.{arith}
 use borrow.Author.Tests.{lt-ltb}
-use borrow.Author.Rules.{rules}
 use Rattle.vetting.specs.Steps.{clears_in}
 use Rattle.vetting.proofs.judging.clears_first.Goals as goal
 

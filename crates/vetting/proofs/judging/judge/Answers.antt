@@ -1,8 +1,6 @@
-use mathlib.Core.Path.{◌≡◌, sym, ◌∙◌}
-use Prim.Native.Nat.{◌-◌, ◌<◌}
-use lib.ListN.{length, get_or}
+use mathlib.Core.Path.{sym, ◌∙◌}
 use native.Mathlib.Omega.{arith}
-use Rattle.vetting.proofs.Through.{Judging, judge-start, write-turn, write-stop, move-turn, move-stop, judge-end, wanted-40}
+use Rattle.vetting.proofs.Through.{judge-start, write-turn, write-stop, move-turn, move-stop, judge-end, wanted-40}
 use borrow.Author.Rules.{rules}
 use Rattle.vetting.proofs.judging.judge.Goals as goal
 
@@ -14,13 +12,13 @@ loop-i-init c =
 pub returns-then-p-low : goal.returns-then-p-low
 returns-then-p-low c =
     write-stop _ _ _ c.requires.0 c.loop-i.invariant c.loop-i-test.true
-        (omega (arith, c.type_inv.string c.loop-i.i))
+    (omega (arith, c.type_inv.string c.loop-i.i))
     (sym c.is_char.ensures ∙ c.if-is_char.true) c.if-p-low.true
 
 pub loop-i-preserved-then-is_char : goal.loop-i-preserved-then-is_char
 loop-i-preserved-then-is_char c =
     write-turn _ _ _ c.requires.0 c.loop-i.invariant c.loop-i-test.true
-        (omega (arith, c.type_inv.string c.loop-i.i)) _ _ _
+    (omega (arith, c.type_inv.string c.loop-i.i)) _ _ _
     (sym c.is_char.ensures ∙ c.if-is_char.true)
     c.if-p-low.false c.next-p.ensures c.put.ensures
     c.put-then-is_char.ensures
@@ -28,13 +26,13 @@ loop-i-preserved-then-is_char c =
 pub returns-then-step-eq0 : goal.returns-then-step-eq0
 returns-then-step-eq0 c =
     move-stop _ _ _ c.requires.0 c.loop-i.invariant c.loop-i-test.true
-        (omega (arith, c.type_inv.string c.loop-i.i)) _
+    (omega (arith, c.type_inv.string c.loop-i.i)) _
     (sym c.is_char.ensures ∙ c.if-is_char.false) c.read_move-step.ensures c.if-step-eq0.true
 
 pub loop-i-preserved : goal.loop-i-preserved
 loop-i-preserved c =
     move-turn _ _ _ c.requires.0 c.loop-i.invariant c.loop-i-test.true
-        (omega (arith, c.type_inv.string c.loop-i.i)) _
+    (omega (arith, c.type_inv.string c.loop-i.i)) _
     (sym c.is_char.ensures ∙ c.if-is_char.false) c.read_move-step.ensures c.if-step-eq0.false
 
 pub settle-requires : goal.settle-requires

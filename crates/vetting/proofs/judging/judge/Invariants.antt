@@ -1,9 +1,6 @@
-use mathlib.Core.Path.{◌≡◌, sym, ◌∙◌}
-use Prim.Native.Nat.{◌-◌, ◌<◌}
-use lib.ListN.{length, get_or}
-use native.Mathlib.Omega.{arith}
-use Rattle.vetting.proofs.Through.{Judging, judge-start, write-turn, write-stop, move-turn, move-stop, judge-end, wanted-40}
-use borrow.Author.Rules.{rules}
+use Prim.Native.Nat.{◌-◌}
+use lib.ListN.{length}
+use Rattle.vetting.proofs.Through.{Judging}
 use Rattle.vetting.proofs.judging.judge.Given as goal
 
 abbrev pub invariant-loop-i : goal.invariant-loop-i

@@ -1,11 +1,8 @@
 use mathlib.Core.Path.{ap}
 use mathlib.Core.Bool.{not}
-use Prim.Native.Nat.{◌-◌}
-use lib.ListN.{get_or}
 use borrow.Author.Tests.{eq-eqb, ne_eqb}
 use borrow.Author.Rules.{rules}
-use Rattle.planner.specs.Fonts.{wrong_cell}
-use Rattle.vetting.proofs.Settling.{Looked, look-first, look-on, look-found, look-end}
+use Rattle.vetting.proofs.Settling.{look-first, look-on, look-found, look-end}
 use Rattle.vetting.proofs.judging.settle.Goals as goal
 
 pub loop-j-init : goal.loop-j-init

@@ -1,9 +1,7 @@
 use Prim.Native.Nat.{◌-◌}
 use lib.ListN.{get_or}
-use borrow.Author.Tests.{eq-eqb, ne_eqb}
-use borrow.Author.Rules.{rules}
 use Rattle.planner.specs.Fonts.{wrong_cell}
-use Rattle.vetting.proofs.Settling.{Looked, look-first, look-on, look-found, look-end}
+use Rattle.vetting.proofs.Settling.{Looked}
 use Rattle.vetting.proofs.judging.settle.Given as goal
 
 abbrev pub invariant-loop-j : goal.invariant-loop-j

@@ -1,6 +1,5 @@
 use Rattle.moves.specs.Moves.{down}
 use borrow.Author.Tests.{le-ltb, lt-ltb}
-use borrow.Author.Rules.{rules}
 use Rattle.vetting.proofs.steps.down.Goals as goal
 
 pub returns-then-p-lt-COLUMNS : goal.returns-then-p-lt-COLUMNS

@@ -1,7 +1,6 @@
 use mathlib.Core.Bool.{or-true, or-false}
 use Rattle.vetting.specs.Steps.{char_in}
 use borrow.Author.Tests.{le-leb, lt-leb}
-use borrow.Author.Rules.{rules}
 use Rattle.vetting.proofs.steps.is_char.Goals as goal
 
 pub returns-then-b-ge32 : goal.returns-then-b-ge32

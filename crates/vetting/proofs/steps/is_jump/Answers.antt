@@ -1,6 +1,5 @@
 use Rattle.vetting.specs.Steps.{is_jump}
 use borrow.Author.Tests.{le-leb, lt-leb}
-use borrow.Author.Rules.{rules}
 use Rattle.vetting.proofs.steps.is_jump.Goals as goal
 
 pub returns-then-s-lt3 : goal.returns-then-s-lt3

@@ -1,6 +1,5 @@
 use Rattle.laws.proofs.Tests.{tests}
 use Rattle.moves.specs.Moves.{move}
-use borrow.Author.Rules.{rules}
 use Rattle.vetting.proofs.steps.led.Goals as goal
 
 pub returns-in-8 : goal.returns-in-8

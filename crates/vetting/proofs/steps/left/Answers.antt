@@ -1,6 +1,5 @@
 use Rattle.moves.specs.Moves.{left}
 use borrow.Author.Tests.{eq-eqb, ne_eqb}
-use borrow.Author.Rules.{rules}
 use Rattle.vetting.proofs.steps.left.Goals as goal
 
 pub returns-then-p-eq0 : goal.returns-then-p-eq0

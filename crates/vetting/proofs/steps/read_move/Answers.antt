@@ -2,7 +2,6 @@ use Rattle.vetting.specs.Steps.{move_of}
 use mathlib.Core.Path.{sym, ◌∙◌}
 use native.Mathlib.Omega.{arith}
 use Rattle.vetting.proofs.Stepping.{jump-long}
-use borrow.Author.Rules.{rules}
 use Rattle.vetting.proofs.steps.read_move.Goals as goal
 
 pub returns-then-is_move : goal.returns-then-is_move
