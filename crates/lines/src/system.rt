@@ -24,8 +24,7 @@ const ENAMETOOLONG: i32 = 36;
 
 const EILSEQ: i32 = 84;
 
-// Reads until the buffer is full, the input ends or a read fails; so many bytes stand at its start, and they are the next ones of the
-// input.
+// Reads until the buffer is full, the input ends or a read fails. So many bytes stand at its start: the next ones of the input.
 pub fn read_full<R: Read>(from: &mut R, buf: &mut [u8]) -> usize
     ensures in_bounds { IsPrefixLen result buf.new }
     ensures bytes { Consumes (R.remaining from.old) (R.remaining from.new) (take result buf.new) }

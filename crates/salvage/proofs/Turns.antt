@@ -60,7 +60,8 @@ written-before : (file block : List ℕ) (n : ℕ) → length file ≡ n * 512 �
 unfolding written_for
 written-before file block n l k h =
     let low : last_good file k ≤ n = omega (arith, last-most file k) in
-    rw (block-before file block n l k h, last-before file block n l k (omega arith), stand-before file block n l (last_good file k) low)
+    let last = last-before file block n l k (omega arith) in
+    rw (block-before file block n l k h, last, stand-before file block n l (last_good file k) low)
 
 -- A block is judged --------------------------------------------------------------------------------------------------------------
 
@@ -161,7 +162,9 @@ copying-turns {n} {sources} {last} {after} {source} {r} {left} {left'} {left''} 
     record {
       taken = taken-turns block c.taken l h j;
       read = Consumes-trans left left' left'' before block c.read took;
-      written = subst (λ x. Appends held held'' x) row (Appends-trans held held' held'' (each (written_for before) n) after c.written gave);
+      written =
+          subst (λ x. Appends held held'' x) row
+          (Appends-trans held held' held'' (each (written_for before) n) after c.written gave);
     }
   where
     before : List ℕ
@@ -175,7 +178,8 @@ copying-turns {n} {sources} {last} {after} {source} {r} {left} {left'} {left''} 
 
     row : each (written_for before) n ++ after ≡ each (written_for (before ++ block)) (n + 1)
     row =
-        rw (← each_same (written_for (before ++ block)) (written_for before) n (written-before before block n c.taken.long), told.written)
+        let same = written-before before block n c.taken.long in
+        rw (← each_same (written_for (before ++ block)) (written_for before) n same, told.written)
         (ap (each (written_for (before ++ block))) (sym (add-one n)))
 
 pub copying-ends : {n : ℕ} {sources last : List ℕ} {source : ℕ} {left left' held held' : Option (List ℕ)}

@@ -18,7 +18,7 @@ const NOT_HAD: Got = Got {
     size: 0,
 };
 
-// Reads to the end, or until the buffer is full: what was had is the next bytes of the file, and the last ones where there is room.
+// Reads to the end, or until the buffer is full: what was had are the next bytes of the file, all of them where there is room left.
 fn read_all<R: Read>(rt: HostRuntime, file: &mut R, buf: &mut [u8], name: &[u8]) -> Got
     ensures within { result.size ≤ length buf.new }
     ensures bytes { result.had ≡ true → Consumes (R.remaining file.old) (R.remaining file.new) (take result.size buf.new) }
