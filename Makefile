@@ -7,6 +7,7 @@ LIB := target/staticlib/libsign.a
 VERSION = $(shell awk '$$2 == "SIGN_VERSION_MAJOR" { v = $$3 } $$2 == "SIGN_VERSION_MINOR" { print v "." $$3 }' include/sign.h)
 # What the proofs depend on: files, and folders too, which are newer where a file is gone.
 SOURCES := $(shell find kit crates.txt crates/*/src crates/*/specs crates/*/proofs)
+CPU := --cpu=x86-64
 # None of make's own rules is tried on each of these.
 MAKEFLAGS += -r
 
@@ -17,14 +18,15 @@ show_lounge: target/bin/show_lounge    ## the sample program of the old lounge m
 salvage: target/bin/salvage    ## the program that salvages a file of blocks, target/bin/salvage
 vet: target/bin/vet     ## the program that vets other people's bytes, target/bin/vet
 
-# rt leaves a product as it is where nothing but times changed. It makes each in its crate's own folder, out/.
+# rt leaves a product as it is where nothing but times changed. It makes each in its crate's own folder, out/, and would make it for
+# processors since about 2009; what is made here runs on every x86-64 one.
 target/staticlib/lib%.a: $(SOURCES)
-	cd crates/$* && rt lib
+	cd crates/$* && rt lib $(CPU)
 	@mkdir -p $(@D) && cp -p crates/$*/out/lib$*.a $@ && touch $@
 
 # To make a program rt also runs it: on no input and no argument, which each program takes.
 target/bin/%: $(SOURCES)
-	cd crates/$* && rt run </dev/null >/dev/null
+	cd crates/$* && rt run $(CPU) </dev/null >/dev/null
 	@mkdir -p $(@D) && cp -p crates/$*/out/$* $@ && touch $@
 
 demo: target/bin/show $(LIB)    ## runs show and two host programs in C, and shows what they print

@@ -53,7 +53,7 @@ extern "C" {
    (the C library's memcpy and memset by their return address alone). The test `stack` compares
    these lines with the compiled code.
      sign_power_up   1,336
-     sign_run        4,600
+     sign_run        4,568
      sign_plan       2,216
      sign_plan_fonts 2,408
      sign_reel       2,776

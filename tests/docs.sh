@@ -120,7 +120,7 @@ missing_places() {
 
 miscrated() {
     sed -n 's/^| `\([a-z_]*\)` |.*/\1/p' README.md | sort >"$work/told"
-    sed -n 's/^\([a-z_]*\)\( staticlib\)\{0,1\}:.*/\1/p' crates.txt | sort | comm -3 - "$work/told" |
+    sed -n 's/^\([a-z_]*\)[^:#]*:.*/\1/p' crates.txt | sort | comm -3 - "$work/told" |
         sed 's/[[:space:]]//g; s/.*/README.md: the crate & is not both there and in crates.txt/'
 }
 
