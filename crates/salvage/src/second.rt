@@ -187,17 +187,14 @@ fn open_folder(rt: HostRuntime, name: &[u8]) -> Result<File, Error> {
     open(rt, &name[..n])
 }
 
-fn sync_folder(rt: HostRuntime, name: &[u8]) -> Result<(), Error> {
-    let file = open_folder(rt, name)?;
-    file.sync_all()
-}
-
 // That a file has this name reaches the device too. Some systems cannot promise that, and the file is there all the same: only that
 // the device fails is said.
 fn settle(rt: HostRuntime, name: &[u8]) {
-    if let Err(e) = sync_folder(rt, name) {
-        if e.raw_os_error() == Some(EIO) {
-            fail(rt, name, e);
+    if let Ok(file) = open_folder(rt, name) {
+        if let Err(e) = file.sync_all() {
+            if e.raw_os_error() == Some(EIO) {
+                fail(rt, name, e);
+            }
         }
     }
 }
