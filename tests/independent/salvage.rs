@@ -333,6 +333,9 @@ fn same_file(b: &mut Bench) {
     }
 }
 
+/// What is said of a name that is not UTF-8: the tool's library takes names as text alone.
+const NO_TEXT: &str = "Invalid or incomplete multibyte or wide character";
+
 /// Names of every kind, read and written; the longest that can be paths, and longer ones.
 fn names(b: &mut Bench) {
     let file = mixture(&mut b.rng, 9, 2).concat();
@@ -341,6 +344,18 @@ fn names(b: &mut Bench) {
         [b"a b", b"-", b"-n", b"--help", b"%s%n", b"f\xC3\xBCr", b"\xFF\xFE", b"out.1.part", long.as_bytes()];
     for name in odd.map(|name| OsString::from_vec(name.to_vec())) {
         b.lay(&file, None);
+        if name.to_str().is_none() {
+            let call = b.call(OsStr::new("in"), &name);
+            b.fails("a name that is no text", call, &[OUT], NO_TEXT);
+            let call = b.call(&name[..], OsStr::new("out"));
+            b.fails("a name that is no text, missing", call, &[IN], NO_TEXT);
+            b.folder.put(&name, &file);
+            let call = b.call(&name[..], OsStr::new("out"));
+            b.fails("a name that is no text", call, &[IN], NO_TEXT);
+            let call = b.call(OsStr::new("in"), &name);
+            b.fails("a name that is no text", call, &[OUT], NO_TEXT);
+            continue;
+        }
         let call = b.call(OsStr::new("in"), &name);
         b.works("an odd name", call, &file, &name);
         let second = fs::read(b.folder.at(&name)).unwrap_or_default();

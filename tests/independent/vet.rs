@@ -257,6 +257,9 @@ fn same_file(v: &mut Vet) {
     }
 }
 
+/// What is said of a name that is not UTF-8: the tool's library takes names as text alone.
+const NO_TEXT: &str = "Invalid or incomplete multibyte or wide character";
+
 /// Names of every kind; the longest that can be paths, and longer ones.
 fn names(v: &mut Vet) {
     let files = v.some_files();
@@ -267,11 +270,16 @@ fn names(v: &mut Vet) {
             let mut names = NAMES.map(OsString::from);
             names[i] = name.clone();
             v.lay(&files);
+            let missing = if name.to_str().is_some() { MISSING } else { NO_TEXT };
             let call = v.call(&names);
-            v.b.fails("an odd name, missing", call, &[Whose::Name(i)], MISSING);
+            v.b.fails("an odd name, missing", call, &[Whose::Name(i)], missing);
             v.b.folder.put(&name, &files[i]);
             let call = v.call(&names);
-            v.prints("an odd name", call, &files);
+            if name.to_str().is_some() {
+                v.prints("an odd name", call, &files);
+            } else {
+                v.b.fails("a name that is no text", call, &[Whose::Name(i)], NO_TEXT);
+            }
         }
     }
     v.lay(&files);

@@ -1,6 +1,7 @@
 // What the programs share of the system: input that is read until a buffer is full, their arguments, and what they say on standard
 // error, which is a name and the system's words.
-ghost use Rattle.std.specs.Prelude.{◌≡◌, ◌≤◌, length, IfOk};
+ghost use Rattle.std.specs.Prelude.{◌≡◌, ◌≤◌, length, take, IfOk};
+ghost use Rattle.std.specs.Io.KnownBytes.{Consumes};
 ghost use Rattle.io.specs.Counts.{IsPrefixLen};
 
 use crate::add_word;
@@ -23,20 +24,18 @@ const ENAMETOOLONG: i32 = 36;
 
 const EILSEQ: i32 = 84;
 
-// Reads until the buffer is full, the input ends or a read fails; so many bytes stand at its start.
+// Reads until the buffer is full, the input ends or a read fails. So many bytes stand at its start: the next ones of the input.
 pub fn read_full<R: Read>(from: &mut R, buf: &mut [u8]) -> usize
-    ensures { IsPrefixLen result buf.new }
+    ensures in_bounds { IsPrefixLen result buf.new }
+    ensures bytes { Consumes (R.remaining from.old) (R.remaining from.new) (take result buf.new) }
 {
     let mut n: usize = 0;
     while n < buf.len() {
-        let more = match from.read(&mut buf[n..]) {
-            Ok(more) => more,
-            Err(_) => 0,
-        };
-        if more == 0 {
-            return n;
+        match from.read(&mut buf[n..]) {
+            Ok(0) => return n,
+            Ok(more) => n += more,
+            Err(_) => return n,
         }
-        n += more;
     }
     n
 }

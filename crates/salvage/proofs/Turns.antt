@@ -1,6 +1,6 @@
 -- A block at a time: what is known of the blocks that were read, whatever they were.
 use Prim.Native.Nat.{ℕ, zero, suc, ◌+◌, ◌*◌, ◌≤◌, ◌<◌}
-use mathlib.Core.Path.{◌≡◌, refl, sym, ◌∙◌}
+use mathlib.Core.Path.{◌≡◌, refl, sym, ap, ◌∙◌, subst}
 use mathlib.Core.Bool.{Bool, true, false, cond}
 use mathlib.Core.List.{List, [], ◌++◌}
 use native.Mathlib.Omega.{arith}
@@ -10,6 +10,9 @@ use lib.ListN.{length, drop, set, length-append, length-drop}
 use lib.Seq.{take_all, drop_at, take-append-le, drop-append-le, get_or-set_same, get_or-set_other}
 use borrow.Author.Tests.{ne_eqb, eq-eqb}
 use Rattle.laws.proofs.Tests.{by-test, by_equal}
+use Rattle.std.specs.Prelude.{Option}
+use Rattle.std.specs.Io.KnownBytes.{Consumes, Appends}
+use Rattle.std.proofs.KnownBytes.{Consumes-nil, Consumes-trans, Appends-nil, Appends-trans}
 use Rattle.row.specs.Row.{laid}
 use Rattle.row.proofs.Laws.{filled}
 use Rattle.condition.specs.declared.Outcome.{Outcome}
@@ -17,8 +20,10 @@ use Rattle.condition.specs.Condition.{power_up}
 use Rattle.block.specs.Block.{block_of}
 use Rattle.block.specs.Reading.{read_refusal, ReadPromise}
 use Rattle.block.proofs.RoundTrip.{accepted, refused-by}
-use Rattle.salvage.specs.Salvage.{block_at, is_good, last_good, stand_in, written_for}
-use Rattle.salvage.specs.Steps.{Step, Judged, SourcesOf, Sourced}
+use Rattle.lines.specs.Lines.{each}
+use Rattle.lines.proofs.Laws.{each_same}
+use Rattle.salvage.specs.Salvage.{whole_in, block_at, is_good, last_good, stand_in, written_for, second_of}
+use Rattle.salvage.specs.Steps.{Step, Judged, SourcesOf, Sourced, Copied}
 
 -- A file, and a block more -------------------------------------------------------------------------------------------------------
 
@@ -49,6 +54,14 @@ module _ (file block : List ℕ) (n : ℕ) (l : length file ≡ n * 512) where
   unfolding stand_in
   stand-before zero h = refl
   stand-before (suc k) h = block-before k (omega arith)
+
+written-before : (file block : List ℕ) (n : ℕ) → length file ≡ n * 512 → (k : ℕ) → k < n
+    → written_for (file ++ block) k ≡ written_for file k
+unfolding written_for
+written-before file block n l k h =
+    let low : last_good file k ≤ n = omega (arith, last-most file k) in
+    let last = last-before file block n l k (omega arith) in
+    rw (block-before file block n l k h, last, stand-before file block n l (last_good file k) low)
 
 -- A block is judged --------------------------------------------------------------------------------------------------------------
 
@@ -100,7 +113,7 @@ pub taken-starts : (sources last : List ℕ) → last ≡ block_of (power_up 0) 
 unfolding last_good stand_in
 taken-starts sources last e = record { file = []; long = refl; from = refl; stands = e; each = λ k h. absurd (omega arith) }
 
-pub taken-turns : {n : ℕ} {sources last after : List ℕ} {source r : ℕ} (block : List ℕ) → Taken n sources last source
+unfoldable pub taken-turns : {n : ℕ} {sources last after : List ℕ} {source r : ℕ} (block : List ℕ) → Taken n sources last source
     → length block ≡ 512 → n < length sources → Judged block n last source after r → Taken (n + 1) (set sources n r) after r
 taken-turns {n} {sources} {last} {after} {source} {r} block t l h j =
     let before = t.file in
@@ -125,3 +138,53 @@ taken-turns {n} {sources} {last} {after} {source} {r} block t l h j =
 
 pub taken-ends : {n : ℕ} {sources last : List ℕ} {source : ℕ} → Taken n sources last source → Sourced n sources
 taken-ends t = record { file = t.file; long = t.long; each = t.each }
+
+-- What was read and what was written ---------------------------------------------------------------------------------------------
+
+-- and of bytes that are known: the blocks are those that were read, and what was written for them stands in turn
+pub record Copying (n : ℕ) (sources last : List ℕ) (source : ℕ) (left left' held held' : Option (List ℕ)) : Type 0 where
+  pub taken : Taken n sources last source
+  pub read : Consumes left left' taken.file
+  pub written : Appends held held' (each (written_for taken.file) n)
+
+pub copying-starts : (sources last : List ℕ) (left held : Option (List ℕ)) → last ≡ block_of (power_up 0)
+    → Copying 0 sources last 0 left left held held
+unfolding each taken-starts
+copying-starts sources last left held e =
+    record { taken = taken-starts sources last e; read = Consumes-nil left; written = Appends-nil held }
+
+pub copying-turns : {n : ℕ} {sources last after : List ℕ} {source r : ℕ} {left left' left'' held held' held'' : Option (List ℕ)}
+    (block : List ℕ) → Copying n sources last source left left' held held' → length block ≡ 512 → n < length sources
+    → Judged block n last source after r → Consumes left' left'' block → Appends held' held'' after
+    → Copying (n + 1) (set sources n r) after r left left'' held held''
+unfolding each taken-turns
+copying-turns {n} {sources} {last} {after} {source} {r} {left} {left'} {left''} {held} {held'} {held''} block c l h j took gave =
+    record {
+      taken = taken-turns block c.taken l h j;
+      read = Consumes-trans left left' left'' before block c.read took;
+      written =
+          subst (λ x. Appends held held'' x) row
+          (Appends-trans held held' held'' (each (written_for before) n) after c.written gave);
+    }
+  where
+    before : List ℕ
+    before = c.taken.file
+
+    told : Step (before ++ block) n after r
+    told =
+        j.step (before ++ block) (block_last before block n c.taken.long l)
+        (c.taken.from ∙ sym (last-before before block n c.taken.long n (omega arith)))
+        (c.taken.stands ∙ sym (stand-before before block n c.taken.long source (omega (arith, c.taken.from, last-most before n))))
+
+    row : each (written_for before) n ++ after ≡ each (written_for (before ++ block)) (n + 1)
+    row =
+        let same = written-before before block n c.taken.long in
+        rw (← each_same (written_for (before ++ block)) (written_for before) n same, told.written)
+        (ap (each (written_for (before ++ block))) (sym (add-one n)))
+
+pub copying-ends : {n : ℕ} {sources last : List ℕ} {source : ℕ} {left left' held held' : Option (List ℕ)}
+    → Copying n sources last source left left' held held' → Copied n sources left left' held held'
+unfolding second_of
+copying-ends {n} c =
+    let whole : whole_in (length c.taken.file) ≡ n = omega (arith, c.taken.long) in
+    record { file = c.taken.file; long = c.taken.long; each = c.taken.each; read = c.read; written = rw whole c.written }

@@ -1,10 +1,12 @@
 -- How the file is gone through, a block at a time. Of each block only its source is kept: which block of the file was written for
 -- it, by one more than that block's number, or 0 for the power-up block. The report is made of the sources at the end.
 use Rattle.std.specs.Prelude.{ℕ, suc, ◌+◌, ◌-◌, ◌*◌, ◌≤◌, ◌<◌, ◌≡◌, Bool, cond, List, [], ◌++◌, length, take, get_or, eqb}
+use Rattle.std.specs.Prelude.{Option}
+use Rattle.std.specs.Io.KnownBytes.{Consumes, Appends}
 use Rattle.block.specs.Reading.{read_refusal}
 use Rattle.lines.specs.Lines.{each, refused_line}
 use Rattle.salvage.specs.Salvage.{block_at, last_good, stand_in, written_for, change_line, tail_line, count_of}
-use Rattle.salvage.specs.Salvage.{counts_line, salvage_refusal, salvage_of}
+use Rattle.salvage.specs.Salvage.{counts_line, second_of, salvage_refusal, salvage_of}
 
 -- A step through a file, at block k: r is its source, and `after` is what is written for it, and stands in for what comes next.
 pub record Step (file : List ℕ) (k : ℕ) (after : List ℕ) (r : ℕ) : Type 0 where
@@ -34,6 +36,15 @@ pub record Sourced (n : ℕ) (sources : List ℕ) : Type 0 where
   pub file : List ℕ
   pub long : length file ≡ n * 512
   pub each : SourcesOf file n sources
+
+-- What was copied of n blocks: they are the next bytes of what is read, where those are known, and what is written for them comes
+-- behind what is held, where that is known.
+pub record Copied (n : ℕ) (sources : List ℕ) (left left' held held' : Option (List ℕ)) : Type 0 where
+  pub file : List ℕ
+  pub long : length file ≡ n * 512
+  pub each : SourcesOf file n sources
+  pub read : Consumes left left' file
+  pub written : Appends held held' (second_of file)
 
 -- What is printed, by the sources -------------------------------------------------------------------------------------------------
 

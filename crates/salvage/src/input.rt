@@ -1,4 +1,7 @@
 // The first file. What fails is said on standard error, by its name and the system's words.
+ghost use Rattle.std.specs.Prelude.{◌≡◌, true};
+ghost use Rattle.std.specs.Io.KnownBytes.{Consumes};
+
 use lines::{fail, path, say};
 use std::fs::File;
 use std::io::{Error, Read, Seek};
@@ -56,7 +59,14 @@ pub(crate) fn length(rt: HostRuntime, file: &mut File, name: &[u8]) -> Option<u6
 
 // The next block. The file was longer when it was measured, so one that is not whole is a failure too. (Of a regular file one call
 // reads all that is asked for and there.)
-pub(crate) fn read_block(rt: HostRuntime, file: &mut File, block: &mut [u8], name: &[u8]) -> bool {
+pub(crate) fn read_block<R: Read>(
+    rt: HostRuntime,
+    file: &mut R,
+    block: &mut [u8],
+    name: &[u8],
+) -> bool
+    ensures { result ≡ true → Consumes (R.remaining file.old) (R.remaining file.new) block.new }
+{
     match file.read(block) {
         Ok(n) => {
             if n < block.len() {

@@ -1,13 +1,14 @@
 // The second file. What fails is said on standard error, by its name and the system's words.
 ghost use Rattle.std.specs.Prelude.{◌≡◌, true, ◌≤◌, length};
 ghost use Rattle.io.specs.Counts.{IsPrefixLen};
-ghost use Rattle.salvage.specs.Steps.{Due, Sourced};
+ghost use Rattle.std.specs.Io.KnownBytes.{Appends};
+ghost use Rattle.salvage.specs.Steps.{Due, Sourced, Copied};
 
 use crate::blocks::{judge, put_power_up};
 use crate::input::{is_regular, open, read_block, say_not_regular};
 use lines::{EIO, PATH, fail, path};
 use std::fs::{File, OpenOptions, remove_file, rename, symlink_metadata};
-use std::io::{Error, ErrorKind, Write};
+use std::io::{Error, ErrorKind, Read, Write};
 use std::process::id;
 
 // Room for a path, and for `.PID.part` behind it.
@@ -82,8 +83,15 @@ fn part_name(rt: HostRuntime, part: &mut [u8], to: &[u8]) -> usize
 }
 
 // What is due for the block that was read is written; `read` is there for that promise alone.
-fn write_block(rt: HostRuntime, file: &mut File, block: &[u8], read: &[u8], name: &[u8]) -> bool
+fn write_block<W: Write>(
+    rt: HostRuntime,
+    file: &mut W,
+    block: &[u8],
+    read: &[u8],
+    name: &[u8],
+) -> bool
     requires { Due read.now block.now }
+    ensures { result ≡ true → Appends (W.contents file.old) (W.contents file.new) block.now }
 {
     match file.write_all(block) {
         Ok(()) => true,
@@ -95,17 +103,19 @@ fn write_block(rt: HostRuntime, file: &mut File, block: &[u8], read: &[u8], name
 }
 
 // The first n blocks of the input are judged, and what is written for each goes to the output.
-fn copy(
+fn copy<R: Read, W: Write>(
     rt: HostRuntime,
-    input: &mut File,
-    output: &mut File,
+    input: &mut R,
+    output: &mut W,
     n: usize,
     sources: &mut [u16],
     from: &[u8],
     part: &[u8],
 ) -> bool
     requires { (n ≤ 10000) × (length sources.old ≡ 10000) }
-    ensures { result ≡ true → Sourced n sources.new }
+    ensures sourced { result ≡ true → Sourced n sources.new }
+    ensures copied { result ≡ true → Copied n sources.new (R.remaining input.old) (R.remaining input.new)
+        (W.contents output.old) (W.contents output.new) }
 {
     let mut stand_in = [0u8; block::LENGTH];
     put_power_up(&mut stand_in);
@@ -177,17 +187,14 @@ fn open_folder(rt: HostRuntime, name: &[u8]) -> Result<File, Error> {
     open(rt, &name[..n])
 }
 
-fn sync_folder(rt: HostRuntime, name: &[u8]) -> Result<(), Error> {
-    let file = open_folder(rt, name)?;
-    file.sync_all()
-}
-
 // That a file has this name reaches the device too. Some systems cannot promise that, and the file is there all the same: only that
 // the device fails is said.
 fn settle(rt: HostRuntime, name: &[u8]) {
-    if let Err(e) = sync_folder(rt, name) {
-        if e.raw_os_error() == Some(EIO) {
-            fail(rt, name, e);
+    if let Ok(file) = open_folder(rt, name) {
+        if let Err(e) = file.sync_all() {
+            if e.raw_os_error() == Some(EIO) {
+                fail(rt, name, e);
+            }
         }
     }
 }

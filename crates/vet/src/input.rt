@@ -1,5 +1,6 @@
 // The files that are named as arguments. What cannot be opened or read is said on standard error, by its name and the system's words.
-ghost use Rattle.std.specs.Prelude.{◌≤◌, length};
+ghost use Rattle.std.specs.Prelude.{◌≡◌, true, ◌≤◌, ◌<◌, length, take};
+ghost use Rattle.std.specs.Io.KnownBytes.{Consumes, IsAtEnd};
 
 use lines::{PATH, arg, fail, path};
 use std::fs::File;
@@ -17,9 +18,11 @@ const NOT_HAD: Got = Got {
     size: 0,
 };
 
-// Reads to the end, or until the buffer is full.
-fn read_all(rt: HostRuntime, file: &mut File, buf: &mut [u8], name: &[u8]) -> Got
-    ensures { result.size ≤ length buf.new }
+// Reads to the end, or until the buffer is full: what was had are the next bytes of the file, all of them where there is room left.
+fn read_all<R: Read>(rt: HostRuntime, file: &mut R, buf: &mut [u8], name: &[u8]) -> Got
+    ensures within { result.size ≤ length buf.new }
+    ensures bytes { result.had ≡ true → Consumes (R.remaining file.old) (R.remaining file.new) (take result.size buf.new) }
+    ensures end { result.had ≡ true → result.size < length buf.new → IsAtEnd (R.remaining file.new) }
 {
     let mut n: usize = 0;
     while n < buf.len() {

@@ -27,7 +27,8 @@ loop-size-preserved g c =
     let l = c.loop-size in
     let t = both (eqb l.size 65536) (ltb 0 l.left) c.loop-size-test.true in
     let r = c.read_full-size in
-    (reading-turns _ _ _ _ _ _ l.invariant.0 (eqb-true l.size 65536 t.0) (sym r.ensures.1) c.more-rest.ensures, search rules)
+    let long = sym r.ensures.in_bounds.1 in
+    (reading-turns _ _ _ _ _ _ l.invariant.0 (eqb-true l.size 65536 t.0) long c.more-rest.ensures, search rules)
 
 pub returns : goal.returns
 returns g c = reading-ends _ _ _ c.loop-size.invariant.0

@@ -14,9 +14,6 @@ slice_bounds-vet_block-end c =
     let picture = c.args.picture.now in
     sym (length-take-le 40 picture (omega (arith, c.if-picture-ne-PICTURE.false)))
 
-pub overflow_cast-asked : goal.overflow_cast-asked
-overflow_cast-asked c = omega (arith, c.shared_slice_known-4-1.given 40)
-
 pub returns : goal.returns
 unfolding files_verdict
 returns c = rw (eq-eqb _ 41 c.if-picture-ne-PICTURE.false) c.vet_block.ensures.answer

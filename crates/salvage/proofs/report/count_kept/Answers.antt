@@ -9,9 +9,6 @@ pub loop-i-init : goal.loop-i-init
 unfolding count_of
 loop-i-init c = (omega arith, search rules, search rules, omega arith, search rules)
 
-pub overflow_cast-sources : goal.overflow_cast-sources
-overflow_cast-sources c = omega (arith, c.shared_slice_known-in-loop-i-1.given c.loop-i.i)
-
 pub loop-i-preserved : goal.loop-i-preserved
 loop-i-preserved c =
     let l = c.loop-i in

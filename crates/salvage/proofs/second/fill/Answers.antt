@@ -6,4 +6,4 @@ pub returns-then-not-copy : goal.returns-then-not-copy
 returns-then-not-copy c = λ e. clash e refl
 
 pub returns : goal.returns
-returns c = λ _. c.copy.ensures c.if-not-copy.false
+returns c = λ _. c.copy.ensures.sourced c.if-not-copy.false
