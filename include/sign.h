@@ -278,7 +278,7 @@ static inline const char *sign_refusal_text(uint32_t refusal) {
     case SIGN_WRONG_LENGTH:  return "a buffer has the wrong length";
     case SIGN_DAMAGED:       return "the block is damaged";
     case SIGN_OUT_OF_RANGE:  return "a value is out of range, or a user character is not defined";
-    case SIGN_TOO_LONG:      return "more than 32,768 bytes in one run or string";
+    case SIGN_TOO_LONG:      return "more than 32,768 bytes in one run";
     case SIGN_TALLY_FULL:    return "a number of the tally would pass 4,000,000,000";
     case SIGN_HALF_RECEIVED: return "a command is half received";
     case SIGN_WRONG_MODE:    return "the mode is not DC1";

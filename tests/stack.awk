@@ -46,7 +46,8 @@ function follow(i,    t, op, d, place) {
         } else if (op == "call") {
             if (!(i in names)) no("a call that names no function: " t)
             called(names[i], d + 8)
-        } else if (op ~ /^push[qw]?$/) d += 8
+        } else if (op ~ /^(push|pop)f/) no("it is not known what this does: " t)
+        else if (op ~ /^push[qw]?$/) d += 8
         else if (op ~ /^pop[qw]?$/) { d -= 8; if (t ~ /%rsp$/) no("it is not known what this does: " t) }
         else if (t ~ /^sub +\$0x[0-9a-f]+,%rsp$/) d += constant(t)
         else if (t ~ /^add +\$0x[0-9a-f]+,%rsp$/) d -= constant(t)

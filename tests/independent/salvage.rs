@@ -429,6 +429,7 @@ fn no_first_file(b: &mut Bench) {
             ("to-pipe", "not a regular file"),
             ("/dev/null", "not a regular file"),
             ("/dev/zero", "not a regular file"),
+            ("/proc/version", "not a regular file"),
         ] {
             let call = b.call(name, "out");
             b.fails("a first file that is none", call, &[IN], words);

@@ -4,14 +4,23 @@ ghost use Rattle.std.specs.Io.KnownBytes.{Consumes};
 
 use lines::{fail, path, say};
 use std::fs::File;
-use std::io::{Error, Read, Seek};
+use std::io::{Error, Read, Seek, SeekFrom};
 
-// Whether what is open is a file; a directory, a disk's own device, a pipe, a terminal and a device such as /dev/null are none.
-pub(crate) fn is_regular(file: &File) -> bool {
+fn is_file(file: &File) -> bool {
     match file.metadata() {
         Ok(m) => m.is_file(),
         Err(_) => false,
     }
+}
+
+// Whether what is open is a file; a directory, a disk's own device, a pipe, a terminal and a device such as /dev/null are none. What
+// /proc has says that it is one, and has no end. (The place is then the end.)
+pub(crate) fn is_regular(file: &File) -> bool {
+    if !is_file(file) {
+        return false;
+    }
+    let mut at = file;
+    at.seek(SeekFrom::End(0)).is_ok()
 }
 
 pub(crate) fn say_not_regular(rt: HostRuntime, name: &[u8]) {
@@ -33,11 +42,12 @@ fn is_directory(file: &File) -> bool {
 
 // One byte is read, and the file is then read from its start.
 fn measure(file: &mut File) -> Result<u64, Error> {
+    file.rewind()?;
     let mut byte = [0u8; 1];
     file.read(&mut byte)?;
-    let m = file.metadata()?;
+    let end = file.seek(SeekFrom::End(0))?;
     file.rewind()?;
-    Ok(m.len())
+    Ok(end)
 }
 
 // How long the file is, and it is then read from its start; or nothing, after it was said why not.
