@@ -23,12 +23,47 @@ use Rattle.moves.proofs.Interpreter.{Ready, moves-to, escapes, writes, placed, i
 use Rattle.vetting.specs.declared.steps.Moved.{Moved}
 use Rattle.vetting.specs.Steps.{char_in, is_jump, move_of}
 
--- a whole jump has three bytes
-pub jump-long : (s : List ℕ) → is_jump s ≡ true → 3 ≤ length s
-unfolding is_jump
-jump-long s e = leb-true 3 (length s) (both (leb 3 (length s)) _ e).0
+-- The move that is read at the start of a string ------------------------------------------------------------------------------
 
--- and is these
+-- what is no whole jump
+no-jump : (s : List ℕ) → (3 ≤ length s → get_or s 0 0 ≡ 0x1b → get_or s 1 0 ≡ 0x48 → get_or s 2 0 ≤ 0x27 → ⊥) → is_jump s ≡ false
+unfolding is_jump
+no-jump s h =
+    by_cases (is_jump s)
+    (λ j.
+    let long = both (leb 3 (length s)) (eqb (get_or s 0 0) 0x1b && eqb (get_or s 1 0) 0x48 && leb (get_or s 2 0) 0x27) j in
+    let first = both (eqb (get_or s 0 0) 0x1b && eqb (get_or s 1 0) 0x48) (leb (get_or s 2 0) 0x27) long.1 in
+    let two = both (eqb (get_or s 0 0) 0x1b) (eqb (get_or s 1 0) 0x48) first.0 in
+    absurd (h (leb-true 3 (length s) long.0) (eqb-true _ 0x1b two.0) (eqb-true _ 0x48 two.1) (leb-true _ 0x27 first.1)))
+    (λ j. j)
+
+module _ (s : List ℕ) (p : ℕ) where
+  pub reads-move : any (eqb (get_or s 0 0)) moves ≡ true → (q : ℕ) → q ≡ move (get_or s 0 0) p
+      → record { bytes = 1; to = q } ≡ move_of s p
+  unfolding move_of
+  reads-move m q e = rw (e, m)
+
+  pub reads-jump : any (eqb (get_or s 0 0)) moves ≡ false → 3 ≤ length s → get_or s 0 0 ≡ 0x1b → get_or s 1 0 ≡ 0x48
+      → get_or s 2 0 ≤ 0x27
+      → record { bytes = 3; to = get_or s 2 0 } ≡ move_of s p
+  unfolding move_of is_jump
+  reads-jump m l a b d =
+      let j : is_jump s ≡ true = rw (le-leb 3 (length s) l, a, b, le-leb (get_or s 2 0) 0x27 d) in
+      rw (m, j)
+
+  pub reads-none : any (eqb (get_or s 0 0)) moves ≡ false
+      → (3 ≤ length s → get_or s 0 0 ≡ 0x1b → get_or s 1 0 ≡ 0x48 → get_or s 2 0 ≤ 0x27 → ⊥)
+      → (move_of s p).bytes ≡ 0
+  unfolding move_of
+  reads-none m h = rw (m, no-jump s h)
+
+-- of no byte there is none
+pub reads-nothing : (s : List ℕ) (p : ℕ) → length s < 1 → (move_of s p).bytes ≡ 0
+unfolding move_of is_jump
+reads-nothing [] p h = refl
+reads-nothing (b ∷ bs) p h = absurd (omega arith)
+
+-- a whole jump is these bytes
 jump-is : (s : List ℕ) → is_jump s ≡ true → (s ≡ 0x1b ∷ 0x48 ∷ get_or s 2 0 ∷ drop 3 s) × (get_or s 2 0 ≤ 0x27)
 unfolding is_jump
 jump-is [] e = clash e refl

@@ -15,23 +15,7 @@ use condition::Condition;
 fn clears_first(index: &[u8; index::ENTRIES], string: &[u8]) -> bool
     ensures { result ≡ clears_in index.now string.now }
 {
-    if string.len() == 0 {
-        return false;
-    }
-    let written = is_char(index, 0x0e);
-    (string[0] == 0x0e) & !written
-}
-
-// So many bytes more, or 0.
-fn more(size: usize, least: u8) -> u32
-    requires { size ≤ 32768 }
-    ensures { result ≡ size - least }
-{
-    let n = least as usize;
-    if size < n {
-        return 0;
-    }
-    (size - n) as u32
+    string.first() == Some(&0x0e) && !is_char(index, 0x0e)
 }
 
 // What is said of a string that uses only permitted steps, by the cells and the cursor that it leaves.
@@ -49,12 +33,10 @@ fn settle(
         (flagged (λ j. wrong_cell (get_or codes.now j 0) (get_or fonts.now j 0) (get_or wanted.now j 0) font)
         40 0) (eqb p asked) excess }
 {
-    let mut j = 0;
-    while j < wanted.len() {
-        if !((codes[j] == wanted[j]) & (fonts[j] == font)) {
+    for (j, code) in wanted.iter().enumerate() {
+        if codes[j] != *code || fonts[j] != font {
             return Verdict::Cell(j as u8);
         }
-        j += 1;
     }
     if p != asked {
         return Verdict::Cursor;
@@ -68,16 +50,16 @@ pub(crate) fn judge(c: Condition, wanted: &[u8], asked: u8, string: &[u8], least
         × (least ≡ length (either_plan c wanted.now asked)) }
     ensures { result ≡ judged_of c wanted.now asked string.now }
 {
-    let index = c.index;
-    let clear = clears_first(&index, string);
+    let clear = clears_first(&c.index, string);
     let mut codes = planner::cells::codes_at(c, clear);
     let mut fonts = planner::cells::fonts_at(c, clear);
     let mut p = c.cursor;
     let mut low: u8 = 0;
     let mut i = clear as usize;
+    // no `for`: a step is one byte or three
     while i < string.len() {
         let b = string[i];
-        if is_char(&index, b) {
+        if is_char(&c.index, b) {
             if p < low {
                 return Verdict::Byte(i as u32);
             }
@@ -87,14 +69,13 @@ pub(crate) fn judge(c: Condition, wanted: &[u8], asked: u8, string: &[u8], least
             p = moves::next(p);
             i += 1;
         } else {
-            let step = read_move(&string[i..], p);
-            if step.bytes == 0 {
+            let Some(step) = read_move(&string[i..], p) else {
                 return Verdict::Byte(i as u32);
-            }
+            };
             p = step.to;
             i += step.bytes as usize;
         }
     }
-    let excess = more(string.len(), least);
+    let excess = string.len().saturating_sub(least as usize) as u32;
     settle(&codes, &fonts, p, c.font, wanted, asked, excess)
 }

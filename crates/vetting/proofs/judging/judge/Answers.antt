@@ -1,4 +1,4 @@
-use mathlib.Core.Path.{sym, ◌∙◌}
+use mathlib.Core.Path.{refl, sym, ◌∙◌}
 use native.Mathlib.Omega.{arith}
 use Rattle.vetting.proofs.Through.{judge-start, write-turn, write-stop, move-turn, move-stop, judge-end, wanted-40}
 use borrow.Author.Rules.{rules}
@@ -23,17 +23,17 @@ loop-i-preserved-then-is_char c =
     c.if-p-low.false c.next-p.ensures c.put.ensures
     c.put-then-is_char.ensures
 
-pub returns-then-step-eq0 : goal.returns-then-step-eq0
-returns-then-step-eq0 c =
+pub returns-in_default : goal.returns-in_default
+returns-in_default c =
     move-stop _ _ _ c.requires.0 c.loop-i.invariant c.loop-i-test.true
     (omega (arith, c.type_inv.string c.loop-i.i)) _
-    (sym c.is_char.ensures ∙ c.if-is_char.false) c.read_move-step.ensures c.if-step-eq0.true
+    (sym c.is_char.ensures ∙ c.if-is_char.false) refl (rw c.in_default.is at c.read_move.ensures)
 
 pub loop-i-preserved : goal.loop-i-preserved
 loop-i-preserved c =
     move-turn _ _ _ c.requires.0 c.loop-i.invariant c.loop-i-test.true
     (omega (arith, c.type_inv.string c.loop-i.i)) _
-    (sym c.is_char.ensures ∙ c.if-is_char.false) c.read_move-step.ensures c.if-step-eq0.false
+    (sym c.is_char.ensures ∙ c.if-is_char.false) c.in-Some.ensures.0 c.in-Some.ensures.1
 
 pub settle-requires : goal.settle-requires
 settle-requires c =
@@ -41,5 +41,5 @@ settle-requires c =
 
 pub returns : goal.returns
 returns c =
-    judge-end _ _ _ c.requires.0 c.loop-i.invariant c.loop-i-test.false _ _ _ c.requires.2 c.more-excess.ensures
+    judge-end _ _ _ c.requires.0 c.loop-i.invariant c.loop-i-test.false _ _ _ c.requires.2 c.saturating_sub-excess.ensures
     c.settle.ensures

@@ -1,4 +1,3 @@
-use Prim.Native.Nat.{◌-◌}
 use lib.ListN.{get_or}
 use Rattle.planner.specs.Fonts.{wrong_cell}
 use Rattle.vetting.proofs.Settling.{Looked}
@@ -7,6 +6,3 @@ use Rattle.vetting.proofs.judging.settle.Given as goal
 abbrev pub invariant-loop-j : goal.invariant-loop-j
 invariant-loop-j l =
     Looked (λ j. wrong_cell (get_or l.codes j 0) (get_or l.fonts j 0) (get_or l.wanted j 0) l.font) l.j
-
-abbrev pub decreases-loop-j : goal.decreases-loop-j
-decreases-loop-j l = 40 - l.j

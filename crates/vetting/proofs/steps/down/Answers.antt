@@ -6,6 +6,6 @@ pub returns-then-p-lt-COLUMNS : goal.returns-then-p-lt-COLUMNS
 unfolding down
 returns-then-p-lt-COLUMNS c = rw (lt-ltb _ _ c.if-p-lt-COLUMNS.true)
 
-pub returns : goal.returns
+pub returns-else-p-lt-COLUMNS : goal.returns-else-p-lt-COLUMNS
 unfolding down
-returns c = rw (le-ltb _ _ c.if-p-lt-COLUMNS.false)
+returns-else-p-lt-COLUMNS c = rw (le-ltb _ _ c.if-p-lt-COLUMNS.false)

@@ -7,6 +7,6 @@ pub returns-then-b-ge32 : goal.returns-then-b-ge32
 unfolding char_in
 returns-then-b-ge32 c = rw (le-leb _ _ c.if-b-ge32.true, or-true)
 
-pub returns : goal.returns
+pub returns-else-b-ge32 : goal.returns-else-b-ge32
 unfolding char_in
-returns c = rw (lt-leb _ _ c.if-b-ge32.false, or-false)
+returns-else-b-ge32 c = rw (lt-leb _ _ c.if-b-ge32.false, or-false)
