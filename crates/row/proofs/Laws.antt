@@ -1,60 +1,19 @@
 -- What a pull, a fill and a copy make of the places, turn by turn and in the end; what is laid over a row; and sizes.
 use Prim.Native.Nat.{ℕ, suc, ◌+◌, ◌-◌, ◌≤◌, ◌<◌, min}
 use native.Mathlib.Nat.{zero-min, min-zero, suc-min-suc}
-use mathlib.Core.Path.{◌≡◌, ap, sym, ◌∙◌}
-use mathlib.Core.List.{List, [], ◌∷◌, ◌++◌, append_assoc, append-nil}
+use mathlib.Core.Path.{◌≡◌, ap, ◌∙◌}
+use mathlib.Core.List.{List, [], ◌∷◌, ◌++◌, append-nil}
 use native.Mathlib.Omega.{arith}
-use native.Mathlib.Numerals.{add-one}
-use lib.ListN.{length, get_or, take, drop, set, replicate, length-append, length-take, length-drop, length-replicate}
-use lib.ListN.{replicate-append-replicate, drop_of_length-le}
-use lib.Seq.{paste, paste-suc, drop-paste, get_or-drop, take_all, drop-cons, set_at, length_paste_head, take-suc-set, take-paste}
-use lib.Seq.{take-suc, take-nil, drop-nil, drop-drop, drop-length, append_snoc, length-take-le}
+use lib.ListN.{length, take, drop, set, replicate, length-append, length-take, length-drop, length-replicate}
+use lib.ListN.{drop_of_length-le}
+use lib.Seq.{paste, take_all, drop-cons, set_at, length_paste_head, length-paste, take-paste}
+use lib.Seq.{take-nil, drop-nil, drop-drop, drop-length}
+use borrow.Rule.Slice.PartMut.{put_mid, mid_of}
 use lib.Dec.{leb, ltb}
 use borrow.Author.Tests.{leb-true, leb-false, eq-eqb}
 use Rattle.laws.proofs.Tests.{by_cases, by-test}
 use Rattle.laws.proofs.Lists.{part_length}
 use Rattle.row.specs.Row.{line_start, scrolled, shifted, cleared_line, on_picture, advanced, laid}
-
--- a turn of a loop that pastes
-pub paste-turn : (d s out : List ℕ) (to from i : ℕ) → out ≡ paste d to (drop from s) i → to + i < length d → from + i < length s
-    → set out (to + i) (get_or s (from + i) 0) ≡ paste d to (drop from s) (i + 1)
-paste-turn d s out to from i e h k =
-    let h2 : i < length (drop from s) = simp length-drop (omega arith) in
-    rw (e, add-one, ← get_or-drop) (paste-suc d to (drop from s) i 0 h h2)
-
--- a turn of a loop that copies
-pub copy-turn : (d s out : List ℕ) (i : ℕ) → out ≡ take i s ++ drop i d → i < length d → i < length s
-    → set out i (get_or s i 0) ≡ take (i + 1) s ++ drop (i + 1) d
-copy-turn d s out i e h k =
-    let l : length (take i s) ≡ i = length-take-le i s (omega arith) in
-    rw (e, drop-cons d i 0 h, set_at (take i s) (get_or d i 0) (drop (suc i) d) (get_or s i 0) i l, add-one, take-suc s i 0 k)
-    (sym (append_snoc (take i s) (get_or s i 0) (drop (suc i) d)))
-
--- the same where the cells are moved in place
-pub pull-turn : (d out : List ℕ) (to by i : ℕ) → out ≡ paste d to (drop (to + by) d) i → to + by + i < length d
-    → set out (to + i) (get_or out (to + by + i) 0) ≡ paste d to (drop (to + by) d) (i + 1)
-pull-turn d out to by i e h =
-    let p : i ≤ length (drop (to + by) d) = simp length-drop (omega arith) in
-    let q : drop (to + i) out ≡ drop (to + i) d = rw e (drop-paste d to (drop (to + by) d) i (omega arith) p) in
-    let n : to + by + i ≡ to + i + by = omega arith in
-    let r : get_or out (to + by + i) 0 ≡ get_or d (to + by + i) 0 =
-    rw n (sym (get_or-drop (to + i) out by 0) ∙ ap (λ (l : List ℕ). get_or l by 0) q ∙ get_or-drop (to + i) d by 0) in
-    rw r (paste-turn d d out to (to + by) i e (omega arith) h)
-
--- a turn of a loop that fills
-pub fill-turn : (d out : List ℕ) (from i v : ℕ) → from ≤ i → i < length out → take i out ≡ take from d ++ replicate (i - from) v
-    → take (i + 1) (set out i v) ≡ take from d ++ replicate (i + 1 - from) v
-fill-turn d out from i v h k e =
-    let n : i + 1 - from ≡ i - from + 1 = omega arith in
-    rw (add-one, take-suc-set out i v k, e, append_assoc, ← add-one, n)
-    (ap (λ (r : List ℕ). take from d ++ r) (replicate-append-replicate (i - from) 1 v))
-
-pub fill_done : (d out : List ℕ) (from i v : ℕ) → i ≡ length out → length out ≡ length d
-    → take i out ≡ take from d ++ replicate (i - from) v → out ≡ take from d ++ replicate (length d - from) v
-fill_done d out from i v h k e =
-    let l : length out ≤ i = omega arith in
-    let n : i ≡ length d = omega arith in
-    rw (← n) (sym (take_all i out l) ∙ e)
 
 -- Whole rows ------------------------------------------------------------------------------------------------------------------
 
@@ -63,42 +22,48 @@ pub on-picture : (f : List ℕ → List ℕ) (a : List ℕ) → length a ≡ 40 
 unfolding on_picture
 on-picture f a h = rw (eq-eqb (length a) 40 h)
 
-pub scroll-law : (a out : List ℕ) (v : ℕ) → length a ≡ 40 → length out ≡ 40 → out ≡ paste a 0 (drop 20 a) 20
-    → take 20 out ++ replicate (length out - 20) v ≡ scrolled v a
+pub scroll-law : (a x : List ℕ) (v : ℕ) → length a ≡ 40 → x ≡ paste a 0 (drop 20 a) (length a - 20)
+    → put_mid 20 (length x - 20) x (replicate (length (mid_of 20 (length x - 20) x)) v) ≡ scrolled v a
 unfolding scrolled
-scroll-law a out v h l p =
-    let k : length (drop 20 a) ≤ 20 = simp length-drop (omega arith) in
+scroll-law a x v h e =
+    let n : length a - 20 ≡ 20 = omega arith in
+    let p : x ≡ paste a 0 (drop 20 a) 20 = rw n at e in
     let m : 20 ≤ length (drop 20 a) = simp length-drop (omega arith) in
-    let e : take 20 out ≡ drop 20 a = rw p (take-paste a 0 (drop 20 a) 20 (omega arith) m ∙ take_all 20 (drop 20 a) k) in
-    let n : length out - 20 ≡ 20 = omega arith in
-    rw (e, n)
+    let k : length (drop 20 a) ≤ 20 = simp length-drop (omega arith) in
+    let l : length x ≡ 40 = rw p (length-paste a 0 (drop 20 a) 20 (omega arith) m ∙ h) in
+    let t : take 20 x ≡ drop 20 a = rw p (take-paste a 0 (drop 20 a) 20 (omega arith) m ∙ take_all 20 (drop 20 a) k) in
+    let n' : length x - 20 ≡ 20 = omega arith in
+    let r : length (take 20 (drop 20 x)) ≡ 20 = simp (length-take, length-drop) (omega arith) in
+    let d : length (drop 20 x) ≤ 20 = simp length-drop (omega arith) in
+    let z : drop 20 (drop 20 x) ≡ [] = drop_of_length-le (drop 20 x) d in
+    rw (n', t, r, z) (ap (λ (y : List ℕ). drop 20 a ++ y) (append-nil (replicate 20 v)))
 
 pub shift-law : (a : List ℕ) (start v : ℕ) → length a ≡ 40 → start ≤ 20
-    → set (paste a start (drop (start + 1) a) 19) (start + 19) v ≡ shifted start v a
+    → set (paste a start (drop (start + 1) a) (start + 20 - (start + 1))) (start + 19) v ≡ shifted start v a
 unfolding shifted
 shift-law a start v h k =
     let l : start + 19 < length a = omega arith in
     let n : 19 ≤ length (drop (start + 1) a) = simp length-drop (omega arith) in
     let e : suc (start + 19) ≡ start + 20 = omega arith in
+    let o : start + 20 - (start + 1) ≡ 19 = omega arith in
     let head : List ℕ = take start a ++ take 19 (drop (start + 1) a) in
     let m : length head ≡ start + 19 = length_paste_head a start (drop (start + 1) a) 19 (omega arith) n in
-    rw (drop-cons a (start + 19) 0 l, e) (set_at head _ _ v (start + 19) m)
+    rw (o, drop-cons a (start + 19) 0 l, e) (set_at head _ _ v (start + 19) m)
 
 pub clear-line-law : (a x : List ℕ) (start v : ℕ) → length a ≡ 40 → start ≤ 20
-    → x ≡ replicate (length (take (start + 20 - start) (drop start a))) v
-    → take start a ++ (x ++ drop (start + 20 - start) (drop start a)) ≡ cleared_line start v a
+    → x ≡ replicate (length (mid_of start (start + 20 - start) a)) v
+    → put_mid start (start + 20 - start) a x ≡ cleared_line start v a
 unfolding cleared_line
 clear-line-law a x start v h k e =
     let n : start + 20 - start ≡ 20 = omega arith in
     rw (e, n, part_length start 20 a (omega arith), drop-drop 20 start a)
 
-pub advance-law : (a : List ℕ) (by n : ℕ) → by ≤ length a → n ≡ length a - by → paste a 0 (drop (0 + by) a) n ≡ advanced by a
+pub advance-law : (a : List ℕ) (by : ℕ) → by ≤ length a → paste a 0 (drop by a) (length a - by) ≡ advanced by a
 unfolding advanced
-advance-law a by n h e =
-    let z : 0 + by ≡ by = omega arith in
-    let l : length (drop by a) ≤ n = simp length-drop (omega arith) in
-    let m : 0 + n ≡ length a - by = omega arith in
-    rw (z, take_all n (drop by a) l, m)
+advance-law a by h =
+    let l : length (drop by a) ≤ length a - by = simp length-drop (omega arith) in
+    let m : 0 + (length a - by) ≡ length a - by = omega arith in
+    rw (take_all (length a - by) (drop by a) l, m)
 
 -- fewer places than `by`: nothing moves
 pub advance-short : (a : List ℕ) (by : ℕ) → length a < by → a ≡ advanced by a

@@ -1,13 +1,15 @@
 -- Every element is at most n: by places, and what keeps it.
-use mathlib.Core.Path.{◌≡◌, refl}
-use mathlib.Core.Bool.{true}
+use mathlib.Core.Path.{◌≡◌, refl, sym, ◌∙◌}
+use mathlib.Core.Bool.{true, ◌&&◌, and-true}
+use mathlib.Core.Logic.{◌⊎◌, inl, inr}
 use mathlib.Core.List.{List, [], ◌∷◌, ◌++◌, map}
-use Prim.Native.Nat.{ℕ, zero, suc, ◌+◌, ◌≤◌}
+use Prim.Native.Nat.{ℕ, zero, suc, ◌+◌, ◌≤◌, max}
 use native.Mathlib.Omega.{arith}
 use lib.Dec.{leb}
 use lib.ListN.{length, get_or, set, take, drop, replicate}
-use borrow.Author.Tests.{leb-true, le-leb}
-use Rattle.laws.proofs.Tests.{both}
+use borrow.Author.Tests.{leb-true, leb-false, le-leb}
+use Rattle.std.specs.List.{fold}
+use Rattle.laws.proofs.Tests.{both, by_cases, most-of}
 use Rattle.row.specs.Row.{all_up_to, scrolled, shifted, cleared_line}
 
 -- every element is at most n
@@ -93,3 +95,13 @@ module _ (n v : ℕ) (a : List ℕ) (h : v ≤ n) (e : all_up_to n a ≡ true) w
   cleared-up-to start =
       up-to-append n (take start a) (replicate 20 v ++ drop (start + 20) a) (up-to-take n start a e)
       (up-to-append n (replicate 20 v) (drop (start + 20) a) (up-to-replicate n 20 v h) (up-to-drop n (start + 20) a e))
+
+-- and the largest of them is
+pub fold-max : (n m : ℕ) (l : List ℕ) → leb (fold max m l) n ≡ (leb m n && all_up_to n l)
+unfolding all_up_to
+fold-max n m [] = sym (and-true (leb m n))
+fold-max n m (x ∷ l) =
+    fold-max n (max m x) l ∙ sym (most-of n m x (max m x) (all_up_to n l) (omega arith) (omega arith) (larger m x))
+  where
+    larger : (m x : ℕ) → (max m x ≡ m) ⊎ (max m x ≡ x)
+    larger m x = by_cases (leb x m) (λ h. inl (omega (arith, leb-true x m h))) (λ h. inr (omega (arith, leb-false x m h)))

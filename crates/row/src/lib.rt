@@ -3,40 +3,9 @@
 // whether a row is in range, and whether two are the same.
 #![tactic(auto)]
 
-ghost use Rattle.std.specs.Prelude.{◌≡◌, ◌+◌, ◌-◌, ◌≤◌, min, length, take, drop, set, replicate, ◌++◌};
-ghost use Rattle.std.proofs.Math.Seq.{paste};
+ghost use Rattle.std.specs.Prelude.{◌≡◌, ◌≤◌, length, set, replicate};
 ghost use Rattle.row.specs.Row.{line_start, scrolled, shifted, cleared_line, on_picture, advanced, laid};
 ghost use Rattle.row.specs.Row.{all_up_to, same_bytes};
-
-// The n places from `to` on take what stands `by` places further on.
-fn pull(cells: &mut [u8], to: usize, by: usize, n: usize)
-    requires { to + by + n ≤ length cells.old }
-    ensures { cells.new ≡ paste cells.old to (drop (to + by) cells.old) n }
-{
-    let mut i: usize = 0;
-    while i < n {
-        cells[to + i] = cells[to + by + i];
-        i += 1;
-    }
-}
-
-// Every place from `from` on is v.
-fn fill(cells: &mut [u8], from: usize, v: u8)
-    requires { from ≤ length cells.old }
-    ensures { cells.new ≡ take from cells.old ++ replicate (length cells.old - from) v }
-{
-    let mut i = from;
-    while i < cells.len() {
-        cells[i] = v;
-        i += 1;
-    }
-}
-
-fn least(a: usize, b: usize) -> usize
-    ensures { result ≡ min a b }
-{
-    if a < b { a } else { b }
-}
 
 // Column 0 of the line of a place.
 pub fn line_start(at: u8) -> u8
@@ -59,7 +28,7 @@ pub fn put(cells: &mut [u8], at: u8, v: u8)
 pub fn clear(cells: &mut [u8], v: u8)
     ensures { cells.new ≡ replicate (length cells.old) v }
 {
-    fill(cells, 0, v);
+    cells.fill(v);
 }
 
 // Top takes bottom, and the bottom line is v. What is not a picture stays as it is.
@@ -69,8 +38,8 @@ pub fn scroll(cells: &mut [u8], v: u8)
     if cells.len() != 40 {
         return;
     }
-    pull(cells, 0, 20, 20);
-    fill(cells, 20, v);
+    cells.copy_within(20.., 0);
+    cells[20..].fill(v);
 }
 
 // The line of the place `at` shifts left one, and v comes to its column 19. What is not a picture stays as it is.
@@ -81,7 +50,7 @@ pub fn shift(cells: &mut [u8], at: u8, v: u8)
         return;
     }
     let start = line_start(at) as usize;
-    pull(cells, start, 1, 19);
+    cells.copy_within(start + 1..start + 20, start);
     cells[start + 19] = v;
 }
 
@@ -93,59 +62,37 @@ pub fn clear_line(cells: &mut [u8], at: u8, v: u8)
         return;
     }
     let start = line_start(at) as usize;
-    clear(&mut cells[start..start + 20], v);
+    cells[start..start + 20].fill(v);
 }
 
 // Each place takes what stands `by` places further on; the last `by` places keep what they hold.
 pub fn advance(bytes: &mut [u8], by: usize)
     ensures { bytes.new ≡ advanced by bytes.old }
 {
-    if bytes.len() < by {
-        return;
+    if by <= bytes.len() {
+        bytes.copy_within(by.., 0);
     }
-    let n = bytes.len() - by;
-    pull(bytes, 0, by, n);
 }
 
 // The bytes of `from` stand at the start of `to`, as far as there is room.
 pub fn copy(to: &mut [u8], from: &[u8])
     ensures { to.new ≡ laid from.now to.old }
 {
-    let n = least(to.len(), from.len());
-    let mut i: usize = 0;
-    while i < n {
-        to[i] = from[i];
-        i += 1;
-    }
+    let n = to.len().min(from.len());
+    to[..n].copy_from_slice(&from[..n]);
 }
 
-// Every byte of s is at most n. All are looked at: a loop that does not leave early is compiled to take many at a time.
+// Every byte of s is at most n. All are looked at, where `all` would stop at the first above n: a chain that does not leave early is
+// compiled to take many at a time, and takes a tenth of the time of one that does.
 pub fn up_to(n: u8, s: &[u8]) -> bool
     ensures { result ≡ all_up_to n s.now }
 {
-    let mut most: u8 = 0;
-    let mut i = 0;
-    while i < s.len() {
-        if most < s[i] {
-            most = s[i];
-        }
-        i += 1;
-    }
-    most <= n
+    s.iter().fold(0, |most, x| most.max(*x)) <= n
 }
 
-// Two rows are the same. All bytes are looked at: a loop that stops early takes longer.
+// Two rows are the same.
 pub fn same(a: &[u8], b: &[u8]) -> bool
     ensures { result ≡ same_bytes a.now b.now }
 {
-    if a.len() != b.len() {
-        return false;
-    }
-    let mut alike = true;
-    let mut i = 0;
-    while i < a.len() {
-        alike = alike & (a[i] == b[i]);
-        i += 1;
-    }
-    alike
+    a == b
 }

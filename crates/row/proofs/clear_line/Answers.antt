@@ -16,4 +16,4 @@ returns c =
     let a = c.args in
     let h : length a.cells.now ≡ 40 = search rules in
     rw (on-picture (cleared_line (line_start a.at) a.v) a.cells.now h, ← start.ensures.0)
-    (clear-line-law a.cells.now _ start.result a.v h start.ensures.1 c.clear.ensures)
+    (clear-line-law a.cells.now _ start.result a.v h start.ensures.1 (search rules))

@@ -15,5 +15,5 @@ returns c =
     let a = c.args in
     let start = c.line_start-start in
     let h : length a.cells.now ≡ 40 = search rules in
-    rw (c.pull.ensures, on-picture (shifted (line_start a.at) a.v) a.cells.now h, ← start.ensures.0)
+    rw (c.copy_within.ensures.after, on-picture (shifted (line_start a.at) a.v) a.cells.now h, ← start.ensures.0)
     (shift-law a.cells.now start.result a.v h start.ensures.1)
