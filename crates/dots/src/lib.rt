@@ -1,8 +1,7 @@
 // The dots of a user character (document 01, What a cell shows).
 #![tactic(auto)]
 
-ghost use Rattle.std.specs.Prelude.{◌≡◌, ◌≤◌};
-ghost use Rattle.std.specs.Int.Count.{ones};
+ghost use Rattle.std.specs.Prelude.{◌≡◌};
 ghost use Rattle.dots.specs.Dots.{byte_of, dot_of, underline_of, lit_of};
 
 // A user character's five bytes.
@@ -15,6 +14,7 @@ pub struct Character {
     pub d5: u8,
 }
 
+// The byte i of 0 to 4. A match, and no index, since the five have names in the definitions.
 fn byte(d: Character, i: u32) -> u8
     ensures { result ≡ byte_of d i }
 {
@@ -49,15 +49,13 @@ pub fn underline(d: Character) -> u8
     d.d5 / 8 % 2
 }
 
-fn ones_in(b: u8) -> u32
-    ensures { (result ≡ ones b) × (result ≤ 8) }
-{
-    u32::count_ones(b as u32)
-}
-
 // How many of the 35 dots are lit: the ones of four bytes and of the low three bits of the fifth.
 pub fn lit(d: Character) -> u32
     ensures { result ≡ lit_of d }
 {
-    ones_in(d.d1) + ones_in(d.d2) + ones_in(d.d3) + ones_in(d.d4) + ones_in(d.d5 % 8)
+    d.d1.count_ones()
+        + d.d2.count_ones()
+        + d.d3.count_ones()
+        + d.d4.count_ones()
+        + (d.d5 % 8).count_ones()
 }

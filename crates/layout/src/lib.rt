@@ -66,41 +66,30 @@ fn bit(on: bool) -> u8
 
 // A half-received command in its three bytes.
 #[derive(Clone, Copy)]
-struct Half {
-    kind: u8,
-    code: u8,
-    holds: u8,
+pub struct Half {
+    pub kind: u8,
+    pub code: u8,
+    pub holds: u8,
 }
 
-fn bare(kind: u8) -> Half
-    ensures { (result.kind ≡ kind) × (result.code ≡ 0) × (result.holds ≡ 0) }
-{
-    Half {
-        kind: kind,
-        code: 0,
-        holds: 0,
-    }
-}
-
-fn half_of(p: Pending) -> Half
+// The three bytes of a half-received command.
+pub fn half_of(p: Pending) -> Half
     ensures { (result.kind ≡ kind_of p) × (result.code ≡ code_of p) × (result.holds ≡ held_of p) }
 {
-    match p {
-        Pending::Nothing => bare(0),
-        Pending::Escape => bare(1),
-        Pending::Position => bare(2),
-        Pending::Luminance => bare(3),
-        Pending::Speed => bare(4),
-        Pending::UserCode => bare(5),
-        Pending::UserData(code, n) => Half {
-            kind: 6,
-            code: code,
-            holds: n,
-        },
-    }
+    let (kind, code, holds) = match p {
+        Pending::Nothing => (0, 0, 0),
+        Pending::Escape => (1, 0, 0),
+        Pending::Position => (2, 0, 0),
+        Pending::Luminance => (3, 0, 0),
+        Pending::Speed => (4, 0, 0),
+        Pending::UserCode => (5, 0, 0),
+        Pending::UserData(code, n) => (6, code, n),
+    };
+    Half { kind, code, holds }
 }
 
-fn pending_in(kind: u8, code: u8, holds: u8) -> Pending
+// The half-received command of three such bytes; a kind above 6 is as 6.
+pub fn pending_in(kind: u8, code: u8, holds: u8) -> Pending
     ensures { result ≡ pending_of kind code holds }
 {
     match kind {
