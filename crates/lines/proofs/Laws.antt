@@ -11,14 +11,13 @@ use lib.Dec.{eqb, ltb, leb, lit<}
 use lib.ListN.{length, take, drop, length-append, length-take, length-drop, drop_of_length-le, take-append-drop}
 use lib.Seq.{take_at, take_all, take-append-add, drop-append-add, length-take-le}
 use borrow.Author.Tests.{lt-ltb, le-ltb, leb-true, leb-false}
-use borrow.Rule.Slice.PartMut.{post_of}
 use Rattle.laws.proofs.Tests.{by_cases, by-test}
-use Rattle.laws.proofs.Lists.{tail-part}
 use Rattle.row.specs.Row.{laid}
 use Rattle.row.proofs.Laws.{laid_none, laid-empty, laid_both}
 use Rattle.io.specs.Digits.{last_digits, IsDigitCount}
 use Rattle.interpreter.specs.declared.Ran.{Ran}
-use Rattle.lines.specs.Lines.{Added, each, digit, decimal_in, decimal_of, tally_line, refused_line, end_start, end_of, print_of}
+use Rattle.lines.specs.declared.Text.{Text}
+use Rattle.lines.specs.Lines.{Added, Adds, each, digit, decimal_in, decimal_of, tally_line, refused_line, end_start, end_of, print_of}
 use Rattle.lines.specs.Lines.{code_text, hex_line, cell_lines}
 
 -- x laid from k on
@@ -64,22 +63,6 @@ both-added {a} {b} {d} {k} {m} {r} {x} {y} p q =
       buffer = q.buffer ∙ (rw (p.next, p.buffer) (both-text a x y k));
     }
 
--- a word past the end of the buffer, and one that is laid over the part from k on
-pub past-added : (a x : List ℕ) (k : ℕ) → length a ≤ k → Added a k x a k
-past-added a x k h =
-    let d : drop k a ≡ [] = drop_of_length-le a {i = k} h in
-    record { next = omega arith; buffer = rw (d, laid_none x, take_all k a h, append-nil a) }
-
-pub word-added : (a x last : List ℕ) (k r : ℕ) → last ≡ laid x (take (length a - k) (drop k a))
-    → r ≡ k + min (length x) (length a - k)
-    → Added a k x (take k a ++ (last ++ post_of k (length a - k) a)) r
-word-added a x last k r e n =
-    let l : length (drop k a) ≤ length a - k = omega (arith, length-drop k a) in
-    record {
-      next = n;
-      buffer = rw (drop_of_length-le (drop k a) {i = length a - k} l, append-nil last, e, tail-part a k);
-    }
-
 -- no text
 pub none-added : (a : List ℕ) (k : ℕ) → Added a k [] a k
 none-added a k = record { next = omega arith; buffer = rw (laid-empty (drop k a)) (sym (take-append-drop k a)) }
@@ -89,6 +72,16 @@ pub each-added : {a b d : List ℕ} {k m r : ℕ} (f : ℕ → List ℕ) (n : �
     → Added a k (each f (n + 1)) d r
 unfolding each
 each-added f n p q = rw (add-one n) (both-added p q)
+
+-- the same of a text
+pub both-adds : {a b d : Text} {x y : List ℕ} → Adds a x b → Adds b y d → Adds a (x ++ y) d
+both-adds p q = record { same = q.same ∙ p.same; added = both-added p.added q.added }
+
+pub none-adds : (a : Text) → Adds a [] a
+none-adds a = record { same = refl; added = none-added a.out.now a.size }
+
+pub each-adds : {a b d : Text} (f : ℕ → List ℕ) (n : ℕ) → Adds a (each f n) b → Adds b (f n) d → Adds a (each f (n + 1)) d
+each-adds f n p q = record { same = q.same ∙ p.same; added = each-added f n p.added q.added }
 
 pub each_below : (f : ℕ → List ℕ) (m n : ℕ) → ((i : ℕ) → i < n → length (f i) ≤ m) → length (each f n) ≤ n * m
 unfolding each

@@ -8,6 +8,7 @@ use Rattle.condition.specs.Condition.{power_up}
 use Rattle.interpreter.specs.declared.Tally.{Tally}
 use Rattle.interpreter.specs.declared.Ran.{Ran}
 use Rattle.interpreter.specs.Run.{zero_tally, run_answer}
+use Rattle.lines.specs.declared.Text.{Text}
 
 -- a text as bytes, one for each character (the texts here are ASCII)
 abbrev pub text : String → List ℕ
@@ -18,6 +19,11 @@ text (c ∷ˢ s) = code c ∷ text s
 pub record Added (before : List ℕ) (k : ℕ) (x : List ℕ) (after : List ℕ) (r : ℕ) : Type 0 where
   pub next : r ≡ k + min (length x) (length before - k)
   pub buffer : after ≡ take k before ++ laid x (drop k before)
+
+-- the text x was added to what stood there, in the same buffer
+pub record Adds (before : Text) (x : List ℕ) (after : Text) : Type 0 where
+  pub same : after.out.ghost_name ≡ before.out.ghost_name
+  pub added : Added before.out.now before.size x after.out.now after.size
 
 -- the texts f 0 to f (n - 1), one after the other
 unfoldable pub each : (ℕ → List ℕ) → ℕ → List ℕ
@@ -88,6 +94,11 @@ end_start r k = cond (eqb r.refusal 0) k 0
 
 unfoldable pub end_of : Ran → List ℕ
 end_of r = cond (eqb r.refusal 0) (tally_line r.tally) (refused_line r.refusal)
+
+-- what ends a print was added to what stood there, in the same buffer
+pub record Ends (before : Text) (r : Ran) (after : Text) : Type 0 where
+  pub same : after.out.ghost_name ≡ before.out.ghost_name
+  pub added : Added before.out.now (end_start r before.size) (end_of r) after.out.now after.size
 
 -- what is printed of a run: a body and the tally, or `refused N` alone
 unfoldable pub print_of : List ℕ → Ran → List ℕ

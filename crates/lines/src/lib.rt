@@ -1,41 +1,25 @@
-// Lines of text in a lent buffer, added piece by piece as far as there is room. Each function answers the place after its text.
+// Lines of text in a lent buffer, added piece by piece as far as there is room.
 #![tactic(auto)]
 
-ghost use Rattle.std.specs.Prelude.{◌≡◌, ◌++◌, ◌<◌, length};
-ghost use Rattle.lines.specs.Lines.{Added, hex_digit, hex_of, last_digit, numbered, end_start, end_of};
+ghost use Rattle.std.specs.Prelude.{◌≡◌, ◌++◌, ◌<◌, length, take};
+ghost use Rattle.lines.specs.Lines.{Adds, hex_digit, hex_of, last_digit, numbered, Ends};
 ghost use Rattle.lines.specs.Lines.{separator_of, hex_line, cell_lines, refused_line};
 
 mod system;
 
 use interpreter::Ran;
-pub use system::{EIO, PATH, arg, fail, has_args, path, read_full, say};
+use std::fmt;
+pub use system::{EIO, PATH, arg, fail, has_args, open, path, read_full, say};
 
 const CELLS: usize = 40;
 
 const LINE: usize = 20;
 
-// A word comes at k.
-pub fn add_word(out: &mut [u8], k: usize, word: &[u8]) -> usize
-    ensures { Added out.old k word.now out.new result }
-{
-    if out.len() <= k {
-        return k;
-    }
-    row::copy(&mut out[k..], word);
-    if out.len() - k < word.len() {
-        return out.len();
-    }
-    k + word.len()
-}
-
-// A word, and a number in decimal, come at k.
-pub fn add_number(out: &mut [u8], k: usize, word: &[u8], n: u64) -> usize
-    ensures { Added out.old k (numbered word.now n) out.new result }
-{
-    let mut digits = [0u8; 20];
-    let d = io::decimal(n, &mut digits);
-    let at = add_word(out, k, word);
-    add_word(out, at, &digits[..d])
+// Text of so many bytes at the start of a lent buffer. What has no room is cut.
+#[derive(Drop)]
+pub struct Text<'a> {
+    pub out: &'a mut [u8],
+    pub size: usize,
 }
 
 fn hex_digit(n: u8) -> u8
@@ -43,23 +27,6 @@ fn hex_digit(n: u8) -> u8
     ensures { result ≡ hex_digit n }
 {
     if n < 10 { b'0' + n } else { b'A' + (n - 10) }
-}
-
-// A word, and a byte in two-digit hex, come at k.
-pub fn add_hex(out: &mut [u8], k: usize, word: &[u8], b: u8) -> usize
-    ensures { Added out.old k (word.now ++ hex_of b) out.new result }
-{
-    let two = [hex_digit(b / 16), hex_digit(b % 16)];
-    let at = add_word(out, k, word);
-    add_word(out, at, &two)
-}
-
-// A byte's last hex digit comes at k.
-pub fn add_digit(out: &mut [u8], k: usize, b: u8) -> usize
-    ensures { Added out.old k (last_digit b) out.new result }
-{
-    let one = [hex_digit(b % 16)];
-    add_word(out, k, &one)
 }
 
 // What follows the code at i of n codes: a space, or a new line after the last.
@@ -70,55 +37,102 @@ fn separator(i: usize, n: usize) -> u8
     if n - i == 1 { b'\n' } else { b' ' }
 }
 
-// The codes in hex with one space between come at k, and a new line.
-pub fn add_codes(out: &mut [u8], k: usize, codes: &[u8]) -> usize
-    ensures { Added out.old k (hex_line codes.now) out.new result }
-{
-    let mut at = k;
-    let mut i: usize = 0;
-    while i < codes.len() {
-        let next = add_hex(out, at, b"", codes[i]);
-        let gap = [separator(i, codes.len())];
-        at = add_word(out, next, &gap);
-        i += 1;
+impl<'a> Text<'a> {
+    pub fn new(out: &'a mut [u8]) -> Text<'a>
+        ensures same { result.out.ghost_name ≡ out.entry.ghost_name }
+        ensures empty { (result.out.now ≡ out.old) × (result.size ≡ 0) }
+    {
+        Text { out, size: 0 }
     }
-    at
-}
 
-fn add_lines(out: &mut [u8], k: usize, codes: &[u8]) -> usize
-    requires { length codes.now ≡ 40 }
-    ensures { Added out.old k (cell_lines codes.now) out.new result }
-{
-    let at = add_codes(out, k, &codes[..LINE]);
-    add_codes(out, at, &codes[LINE..])
-}
-
-// The codes of a picture by line: 40 places, two lines of 20.
-pub fn add_cells(out: &mut [u8], k: usize, codes: [u8; CELLS]) -> usize
-    ensures { Added out.old k (cell_lines codes) out.new result }
-{
-    add_lines(out, k, &codes)
-}
-
-// `refused N` comes at k.
-pub fn add_refused(out: &mut [u8], k: usize, n: u8) -> usize
-    ensures { Added out.old k (refused_line n) out.new result }
-{
-    let at = add_number(out, k, b"refused ", n as u64);
-    add_word(out, at, b"\n")
-}
-
-// What ends the print of a run: its tally at k, or its refusal alone.
-pub fn add_end(out: &mut [u8], k: usize, r: Ran) -> usize
-    ensures { Added out.old (end_start r k) (end_of r) out.new result }
-{
-    if r.refusal != 0 {
-        return add_refused(out, 0, r.refusal);
+    // The text so far.
+    pub fn written(&self) -> &[u8]
+        ensures { result.now ≡ take self.now.size self.now.out.now }
+    {
+        let size = self.size.min(self.out.len());
+        &self.out[..size]
     }
-    let t = r.tally;
-    let first = add_number(out, k, b"bytes ", t.bytes as u64);
-    let second = add_number(out, first, b" busy ", t.busy as u64);
-    let third = add_number(out, second, b" flickerless ", t.flickerless as u64);
-    let fourth = add_number(out, third, b" worst ", t.worst as u64);
-    add_word(out, fourth, b"\n")
+
+    pub fn word(&mut self, word: &[u8])
+        ensures { Adds self.old word.now self.new }
+    {
+        let start = self.size.min(self.out.len());
+        let room = &mut self.out[start..];
+        row::copy(room, word);
+        self.size += word.len().min(room.len());
+    }
+
+    // A word, and a number in decimal.
+    pub fn number(&mut self, word: &[u8], n: u64)
+        ensures { Adds self.old (numbered word.now n) self.new }
+    {
+        let mut digits = [0u8; 20];
+        let d = io::decimal(n, &mut digits);
+        self.word(word);
+        self.word(&digits[..d]);
+    }
+
+    // A word, and a byte in two-digit hex.
+    pub fn hex(&mut self, word: &[u8], b: u8)
+        ensures { Adds self.old (word.now ++ hex_of b) self.new }
+    {
+        self.word(word);
+        self.word(&[hex_digit(b / 16), hex_digit(b % 16)]);
+    }
+
+    // A byte's last hex digit.
+    pub fn digit(&mut self, b: u8)
+        ensures { Adds self.old (last_digit b) self.new }
+    {
+        self.word(&[hex_digit(b % 16)]);
+    }
+
+    // The codes in hex with one space between, and a new line.
+    pub fn codes(&mut self, codes: &[u8])
+        ensures { Adds self.old (hex_line codes.now) self.new }
+    {
+        for (i, code) in codes.iter().enumerate() {
+            self.hex(b"", *code);
+            self.word(&[separator(i, codes.len())]);
+        }
+    }
+
+    // The codes of a picture by line: 40 places, two lines of 20.
+    pub fn cells(&mut self, codes: &[u8; CELLS])
+        ensures { Adds self.old (cell_lines codes.now) self.new }
+    {
+        self.codes(&codes[..LINE]);
+        self.codes(&codes[LINE..]);
+    }
+
+    // `refused N`
+    pub fn refused(&mut self, n: u32)
+        ensures { Adds self.old (refused_line n) self.new }
+    {
+        self.number(b"refused ", n as u64);
+        self.word(b"\n");
+    }
+
+    // What ends the print of a run: its tally, or its refusal alone.
+    pub fn end(&mut self, r: Ran)
+        ensures { Ends self.old r self.new }
+    {
+        if r.refusal != 0 {
+            self.size = 0;
+            return self.refused(r.refusal as u32);
+        }
+        self.number(b"bytes ", r.tally.bytes as u64);
+        self.number(b" busy ", r.tally.busy as u64);
+        self.number(b" flickerless ", r.tally.flickerless as u64);
+        self.number(b" worst ", r.tally.worst as u64);
+        self.word(b"\n");
+    }
+}
+
+// What is written to a text is a word of it.
+impl<'a> fmt::Write for Text<'a> {
+    fn write_str(&mut self, s: &str) -> fmt::Result {
+        self.word(s.as_bytes());
+        Ok(())
+    }
 }

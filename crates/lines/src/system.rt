@@ -1,13 +1,13 @@
 // What the programs share of the system: input that is read until a buffer is full, their arguments, and what they say on standard
 // error, which is a name and the system's words.
-ghost use Rattle.std.specs.Prelude.{◌≡◌, ◌≤◌, length, take, IfOk};
-ghost use Rattle.std.specs.Io.KnownBytes.{Consumes};
+ghost use Rattle.std.specs.Prelude.{◌≡◌, ◌≤◌, ◌<◌, length, take, IfOk, OnOk};
+ghost use Rattle.std.specs.Io.KnownBytes.{Consumes, IsAtEnd};
 ghost use Rattle.io.specs.Counts.{IsPrefixLen};
 
-use crate::add_word;
+use crate::Text;
 use std::env::{Env, FillError};
-use std::fmt;
 use std::fmt::Write;
+use std::fs::File;
 use std::io::{Error, Print, Read};
 use std::str::from_utf8;
 
@@ -24,46 +24,39 @@ const ENAMETOOLONG: i32 = 36;
 
 const EILSEQ: i32 = 84;
 
-// Reads until the buffer is full, the input ends or a read fails. So many bytes stand at its start: the next ones of the input.
-pub fn read_full<R: Read>(from: &mut R, buf: &mut [u8]) -> usize
-    ensures in_bounds { IsPrefixLen result buf.new }
-    ensures bytes { Consumes (R.remaining from.old) (R.remaining from.new) (take result buf.new) }
+// Reads until the buffer is full, the input ends or a read fails. So many bytes stand at its start: the next ones of the input, all of
+// them where there is room left and no read failed.
+pub fn read_full<R: Read>(from: &mut R, buf: &mut [u8]) -> (usize, Result<(), Error>)
+    ensures in_bounds { IsPrefixLen result.0 buf.new }
+    ensures bytes { Consumes (R.remaining from.old) (R.remaining from.new) (take result.0 buf.new) }
+    ensures end { OnOk result.1 (result.0 < length buf.new → IsAtEnd (R.remaining from.new)) }
 {
     let mut n: usize = 0;
     while n < buf.len() {
         match from.read(&mut buf[n..]) {
-            Ok(0) => return n,
+            Ok(0) => return (n, Ok(())),
             Ok(more) => n += more,
-            Err(_) => return n,
+            Err(e) => return (n, Err(e)),
         }
     }
-    n
+    (n, Ok(()))
 }
 
 fn has_arg(rt: HostRuntime, i: usize) -> bool {
-    let mut byte = [0u8; 1];
-    match rt.arg(i, &mut byte) {
-        Err(FillError::NotPresent) => false,
-        _ => true,
-    }
+    !matches!(rt.arg(i, &mut [0u8; 1]), Err(FillError::NotPresent))
 }
 
 // Whether the program was given so many arguments, and no more.
 pub fn has_args(rt: HostRuntime, n: usize) -> bool {
-    if n != 0 {
-        if !has_arg(rt, n) {
-            return false;
-        }
-    }
-    n == usize::MAX || !has_arg(rt, n + 1)
+    (n == 0 || has_arg(rt, n)) && (n == usize::MAX || !has_arg(rt, n + 1))
 }
 
-// The argument, and how many bytes it has.
-pub fn arg(rt: HostRuntime, i: usize, name: &mut [u8]) -> Result<usize, Error>
-    ensures { IfOk result (λ n. n ≤ length name.new) }
+// The argument, in a lent buffer.
+pub fn arg<'a>(rt: HostRuntime, i: usize, name: &'a mut [u8]) -> Result<&'a [u8], Error>
+    ensures { IfOk result (λ arg. length arg.now ≤ length name.old) }
 {
     match rt.arg(i, name) {
-        Ok(n) => Ok(n),
+        Ok(n) => Ok(&name[..n]),
         Err(_) => Err(Error::from_raw_os_error(ENAMETOOLONG)),
     }
 }
@@ -78,33 +71,19 @@ pub fn path(name: &[u8]) -> Result<&str, Error>
     }
 }
 
-// What is written stands at the start of the bytes, as far as there is room.
-#[derive(Drop)]
-struct Words {
-    bytes: [u8; WORDS],
-    size: usize,
-}
-
-impl Write for Words {
-    fn write_str(&mut self, s: &str) -> fmt::Result {
-        let n = add_word(&mut self.bytes, self.size, s.as_bytes());
-        self.size = n;
-        Ok(())
-    }
+// The file of this name, to be read.
+pub fn open(rt: HostRuntime, name: &[u8]) -> Result<File, Error> {
+    File::open(&rt, path(name)?)
 }
 
 // How much of the words stands before ` (os error N)`, with which they end; all, where they do not.
 fn before_number(words: &[u8]) -> usize
     ensures { result ≤ length words.now }
 {
-    let mut n = words.len();
-    while 1 < n {
-        n -= 1;
-        if words[n] == b'(' {
-            return n - 1;
-        }
+    match words.iter().rposition(|w| *w == b'(') {
+        Some(at) if 0 < at => at - 1,
+        _ => words.len(),
     }
-    words.len()
 }
 
 pub fn say(rt: HostRuntime, name: &[u8], words: &[u8]) {
@@ -115,17 +94,14 @@ pub fn say(rt: HostRuntime, name: &[u8], words: &[u8]) {
 
 // The name and the system's words, in a line.
 pub fn fail(rt: HostRuntime, name: &[u8], e: Error) {
-    let mut text = Words {
-        bytes: [0; WORDS],
-        size: 0,
-    };
-    let _ = text.write(e);
-    let all = &text.bytes[..];
-    let size = all.len().min(text.size);
-    let n = before_number(&all[..size]);
+    let mut room = [0u8; WORDS];
+    let mut words = Text::new(&mut room);
+    let _ = write!(words, "{e}");
+    let words = words.written();
+    let n = before_number(words);
     let err = rt.stderr();
     let _ = err.write_all(name);
     let _ = err.write_all(b": ");
-    let _ = err.write_all(&all[..n]);
+    let _ = err.write_all(&words[..n]);
     let _ = err.write_all(b"\n");
 }
