@@ -2,43 +2,29 @@
 use Prim.Native.Nat.{ℕ, ◌+◌, ◌%◌, ◌<◌}
 use mathlib.Core.Path.{◌≡◌, sym, ◌∙◌}
 use mathlib.Core.List.{List}
-use mathlib.Core.Bool.{Bool, true, false}
+use mathlib.Core.Bool.{Bool, true, false, cond}
 use native.Mathlib.Omega.{arith}
 use lib.Dec.{eqb, ltb}
 use lib.ListN.{get_or}
 use borrow.Author.Tests.{eq-eqb, ne_eqb}
 use Rattle.condition.specs.declared.Condition.{Condition}
 use Rattle.condition.specs.declared.Pending.{Pending}
-use Rattle.condition.specs.declared.Pending.TheVariants.{Nothing, UserData}
+use Rattle.condition.specs.declared.Pending.TheVariants.{Nothing, Escape, Position, Luminance, Speed, UserCode, UserData}
 use Rattle.condition.specs.Set.{with_cursor, with_cell}
-use Rattle.condition.specs.Bytes.{scroll_of, right_of, push_of, write_of, is_char, control_of, data_of, step_at, step_of}
+use Rattle.condition.specs.Bytes.{scroll_of, right_of, push_of, write_of, is_char, control_of, step_at, step_of}
 use Rattle.condition.specs.declared.Figures.{Figures}
 use Rattle.condition.specs.Busy.{write_busy, control_busy, quick_at, quick_figure, figures_by}
 use Rattle.layout.specs.Layout.{condition_in, pending_of}
-use Rattle.layout.proofs.PackedBack.{kind-above-5}
-use Rattle.inplace.specs.InPlace.{Stepped}
+use Rattle.inplace.specs.InPlace.{Stepped, alters_users}
 use Rattle.inplace.proofs.Columns.{inner-column, edge-column}
 use Rattle.inplace.proofs.InPlace.{cursor-at, mode-at, flickerless-at, pending-at}
 
 -- 09h, with the column's test r
 module _ (s : List ℕ) (r : Bool) (at : r ≡ ltb (get_or s 3 0 % 20) 19) where
-  pub right-one : r ≡ true → with_cursor (condition_in s) (get_or s 3 0 + 1) ≡ right_of (condition_in s)
-  unfolding right_of
-  right-one e = rw (cursor-at s, ← at, e)
-
-  pub right-stays : r ≡ false → get_or s 4 0 ≡ 3 → condition_in s ≡ right_of (condition_in s)
-  unfolding right_of
-  right-stays e m = rw (cursor-at s, ← at, e, mode-at s, eq-eqb _ _ m)
-
   pub right-next : r ≡ false → (get_or s 4 0 ≡ 3 → ⊥) → get_or s 3 0 ≡ 19
       → with_cursor (condition_in s) 20 ≡ right_of (condition_in s)
   unfolding right_of
   right-next e m x = rw (cursor-at s, ← at, e, mode-at s, ne_eqb _ _ m, eq-eqb _ _ x)
-
-  pub right-home : r ≡ false → (get_or s 4 0 ≡ 3 → ⊥) → (get_or s 3 0 ≡ 19 → ⊥) → get_or s 4 0 ≡ 1
-      → with_cursor (condition_in s) 0 ≡ right_of (condition_in s)
-  unfolding right_of
-  right-home e m x k = rw (cursor-at s, ← at, e, mode-at s, ne_eqb _ _ m, ne_eqb _ _ x, eq-eqb _ _ k)
 
   pub right-scroll : r ≡ false → (get_or s 4 0 ≡ 3 → ⊥) → (get_or s 3 0 ≡ 19 → ⊥) → (get_or s 4 0 ≡ 1 → ⊥)
       → with_cursor (scroll_of (condition_in s)) 20 ≡ right_of (condition_in s)
@@ -63,22 +49,29 @@ pub write-on : (s : List ℕ) (b : ℕ) → (get_or s 4 0 ≡ 3 → ⊥)
 unfolding write_of
 write-on s b m = rw (cursor-at s, mode-at s, ne_eqb _ _ m)
 
+-- something is half received where the kind is not 0
+pub half-received : (k code n : ℕ) → 0 < k → pending_of k code n ≡ Nothing → ⊥
+half-received k code n h e = go (eqb k 1) (eqb k 2) (eqb k 3) (eqb k 4) (eqb k 5) (rw (ne_eqb k 0 (λ z. omega arith)) at e)
+  where
+    go : (t1 t2 t3 t4 t5 : Bool)
+        → cond t1 Escape (cond t2 Position (cond t3 Luminance (cond t4 Speed (cond t5 UserCode (UserData code n))))) ≡ Nothing → ⊥
+    go true t2 t3 t4 t5 e = cc
+    go false true t3 t4 t5 e = cc
+    go false false true t4 t5 e = cc
+    go false false false true t5 e = cc
+    go false false false false true e = cc
+    go false false false false false e = cc
+
 -- a byte that continues what is half received
-pub half_step : (s : List ℕ) (b : ℕ) (p : Pending) → pending_of (get_or s 13 0) (get_or s 14 0) (get_or s 15 0) ≡ p
-    → step_at p (condition_in s) b ≡ step_of (condition_in s) b
-half_step s b p e = rw (pending-at s, e)
+module _ (s : List ℕ) (b : ℕ) (p : Pending) (e : p ≡ pending_of (get_or s 13 0) (get_or s 14 0) (get_or s 15 0)) where
+  pub half-step : step_at p (condition_in s) b ≡ step_of (condition_in s) b
+  half-step = rw (pending-at s, e)
 
--- a kind that is not 0 and none of 1 to 5 awaits user data
-pub awaits-data : (k code n : ℕ) → 0 < k → (k ≡ 1 → ⊥) → (k ≡ 2 → ⊥) → (k ≡ 3 → ⊥) → (k ≡ 4 → ⊥) → (k ≡ 5 → ⊥)
-    → pending_of k code n ≡ UserData code n
-awaits-data k code n h h1 h2 h3 h4 h5 = sym (kind-above-5 k code n (omega arith))
+  pub half-quick : quick_at p (condition_in s) b ≡ quick_figure (condition_in s) b
+  half-quick = rw (pending-at s, e)
 
--- a byte of user data
-pub data-step : (s : List ℕ) (b : ℕ)
-    → pending_of (get_or s 13 0) (get_or s 14 0) (get_or s 15 0) ≡ UserData (get_or s 14 0) (get_or s 15 0)
-    → data_of (condition_in s) (get_or s 14 0) (get_or s 15 0) b ≡ step_of (condition_in s) b
-unfolding step_at
-data-step s b e = half_step s b _ e
+  pub half-kept : alters_users p b ≡ alters_users (condition_in s).pending b
+  half-kept = rw (pending-at s, e)
 
 -- A byte carried out, by its quick figure q and by the flag in byte 12, as it stood before
 module _ (s : List ℕ) (b : ℕ) (k : Condition) (q : ℕ) (r : Figures) (e : r ≡ figures_by q (eqb (get_or s 12 0) 1)) where

@@ -7,8 +7,8 @@ use lib.Dec.{eqb}
 use borrow.Author.Tests.{le-ltb}
 use lib.ListN.{length, get_or, take, drop, set, replicate}
 use lib.Seq.{take_at, drop_at}
-use Rattle.row.specs.Row.{on_picture, laid}
-use Rattle.row.proofs.Laws.{on-picture, filled}
+use Rattle.row.specs.Row.{on_picture}
+use Rattle.row.proofs.Laws.{on-picture}
 use Rattle.users.specs.Users.{users_in, define_in}
 use Rattle.condition.specs.declared.Condition.{Condition}
 use Rattle.condition.specs.Condition.{power_up}
@@ -88,12 +88,6 @@ pub count-in : (s : List ℕ) (n : ℕ) → 200 ≤ length s → condition_in (s
 unfolding condition_in
 count-in s n h = stored (λ (l : List ℕ). set l 20 n) (λ (k : Condition). with_count k n) (search) s h
 
-pub release-in : (s : List ℕ) → 200 ≤ length s
-    → condition_in (set (set (set (set s 16 0) 17 0) 18 0) 19 0) ≡ released_in (condition_in s)
-unfolding condition_in
-release-in s h =
-    stored (λ (l : List ℕ). set (set (set (set l 16 0) 17 0) 18 0) 19 0) (λ (k : Condition). released_in k) (search) s h
-
 pub ruleset stores = (
   cursor-in,
   go-in,
@@ -108,7 +102,6 @@ pub ruleset stores = (
   flickerless-in,
   pending-in,
   count-in,
-  release-in,
 )
 
 -- a byte among the four held
@@ -168,6 +161,8 @@ pending-at s = refl
 pub users-at : (s : List ℕ) → (condition_in s).users ≡ users_in (take 96 (drop 104 s)) (get_or s 20 0)
 unfolding condition_in
 users-at s = refl
+
+pub ruleset reads = (cursor-at, mode-at, scrolling-at, font-at, link_at, flickerless-at, pending-at, users-at)
 
 -- Stores to a part ---------------------------------------------------------------------------------------------------------
 
@@ -275,11 +270,14 @@ define-by s x n code last h hx hl e =
 abbrev fresh_head : ℕ → List ℕ
 fresh_head f = 0 ∷ 1 ∷ 0 ∷ 0 ∷ f ∷ f ∷ 0 ∷ 3 ∷ 0x14 ∷ 0 ∷ 0 ∷ 0 ∷ 0 ∷ 0 ∷ 0 ∷ 0 ∷ 0 ∷ 0 ∷ []
 
-reset-in : (s : List ℕ) (f : ℕ) → 200 ≤ length s → condition_in (spliced 3 18 s (fresh_head f)) ≡ reset_in (condition_in s) f
+pub reset-in : (s : List ℕ) (f : ℕ) → 200 ≤ length s → condition_in (spliced 3 18 s (fresh_head f)) ≡ reset_in (condition_in s) f
 unfolding condition_in power_up
 reset-in s f h = stored (λ (l : List ℕ). spliced 3 18 l (fresh_head f)) (λ (k : Condition). reset_in k f) (search) s h
 
-pub reset_by : (s x : List ℕ) (f : ℕ) → 200 ≤ length s → x ≡ laid (fresh_head f) (take 18 (drop 3 s))
-    → condition_in (spliced 3 18 s x) ≡ reset_in (condition_in s) f
-reset_by s x f h e =
-    rw (e, filled (fresh_head f) (take 18 (drop 3 s)) 18 refl (part_length 3 18 s (omega arith))) (reset-in s f h)
+-- the bytes held, all 0
+pub release-by : (s x : List ℕ) → 200 ≤ length s → x ≡ replicate (length (take 4 (drop 16 s))) 0
+    → condition_in (spliced 16 4 s x) ≡ released_in (condition_in s)
+unfolding condition_in
+release-by s x h e =
+    rw (e, part_length 16 4 s (omega arith))
+    (stored (λ (l : List ℕ). spliced 16 4 l (replicate 4 0)) (λ (k : Condition). released_in k) (search) s h)

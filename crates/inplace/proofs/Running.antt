@@ -2,9 +2,10 @@
 use Prim.Native.Nat.{ℕ, ◌+◌, ◌≤◌, ◌<◌}
 use mathlib.Core.Path.{◌≡◌, refl, sym, ◌∙◌}
 use mathlib.Core.List.{List}
-use mathlib.Core.Bool.{true}
+use mathlib.Core.Bool.{Bool, true, false}
 use native.Mathlib.Omega.{arith}
 use lib.Dec.{eqb}
+use mir.Val.{bool_byte}
 use lib.ListN.{length, get_or, drop}
 use Rattle.condition.specs.declared.Condition.{Condition}
 use Rattle.laws.specs.Flags.{flag}
@@ -20,6 +21,15 @@ use Rattle.layout.proofs.PackedBack.{sized-in}
 use Rattle.inplace.specs.declared.Spent.{Spent}
 use Rattle.inplace.specs.InPlace.{Stepped, Carried, spent_of}
 use Rattle.inplace.proofs.InPlace.{cursor-at, flickerless-at}
+
+-- a flag as a number, as the code makes one of it
+pub flag-byte : (b : Bool) → bool_byte b ≡ flag b
+flag-byte true = refl
+flag-byte false = refl
+
+pub flag-most : (b : Bool) → bool_byte b ≤ 1
+flag-most true = omega arith
+flag-most false = omega arith
 
 -- what at most 32,768 bytes spend is small
 abbrev pub Small : Spent → Type 0

@@ -1,5 +1,5 @@
 // The bytes that begin no command and continue none (document 01, What a byte does).
-ghost use Rattle.std.specs.Prelude.{◌≡◌, ◌≤◌, ◌<◌, ◌%◌, length, get_or, ltb};
+ghost use Rattle.std.specs.Prelude.{◌≡◌, ◌<◌, ◌%◌, get_or, ltb};
 ghost use Rattle.condition.specs.Bytes.{left_of, right_of, down_of, return_of, push_of, write_of};
 ghost use Rattle.condition.specs.Bytes.{control_of, setting_of, select_of};
 ghost use Rattle.layout.specs.Layout.{condition_in};
@@ -9,12 +9,12 @@ use crate::fields::{
     euro_on, go_to, international, katakana, move_to, set_mode, set_pending, set_scrolling,
     set_shown,
 };
-use condition::Condition;
-use layout::{CURSOR, MODE, SCROLLING};
+use condition::{Condition, Pending};
+use layout::{CURSOR, MODE, PACKED, SCROLLING};
 
 // 08h.
-fn left(s: &mut [u8])
-    requires { 200 ≤ length s.old }
+#[tactic(auto, using(crate::proofs::InPlace::reads), unfolding(condition::specs::Bytes::left_of))]
+fn left(s: &mut [u8; PACKED])
     ensures { condition_in s.new ≡ left_of (condition_in s.old) }
 {
     let x = s[CURSOR];
@@ -30,15 +30,13 @@ pub(crate) fn below_19(x: u8) -> bool
     requires { x < 40 }
     ensures { result ≡ ltb (x % 20) 19 }
 {
-    if x == Condition::LAST_COLUMN {
-        return false;
-    }
-    x < Condition::LAST_PLACE
+    x != Condition::LAST_COLUMN && x < Condition::LAST_PLACE
 }
 
 // 09h.
-fn right(s: &mut [u8])
-    requires { (200 ≤ length s.old) × (get_or s.old 3 0 < 40) }
+#[tactic(auto, using(crate::proofs::InPlace::reads), unfolding(condition::specs::Bytes::right_of))]
+fn right(s: &mut [u8; PACKED])
+    requires { get_or s.old 3 0 < 40 }
     ensures { condition_in s.new ≡ right_of (condition_in s.old) }
 {
     let x = s[CURSOR];
@@ -63,8 +61,8 @@ fn right(s: &mut [u8])
 }
 
 // 0Ah.
-fn down(s: &mut [u8])
-    requires { 200 ≤ length s.old }
+#[tactic(auto, using(crate::proofs::InPlace::reads), unfolding(condition::specs::Bytes::down_of))]
+fn down(s: &mut [u8; PACKED])
     ensures { condition_in s.new ≡ down_of (condition_in s.old) }
 {
     let x = s[CURSOR];
@@ -79,15 +77,15 @@ fn down(s: &mut [u8])
     }
     if m == 2 {
         scroll(s);
-        set_scrolling(s, 0);
+        set_scrolling(s, false);
         return;
     }
-    set_scrolling(s, 0);
+    set_scrolling(s, false);
 }
 
 // 0Dh.
-fn carriage_return(s: &mut [u8])
-    requires { 200 ≤ length s.old }
+#[tactic(auto, using(crate::proofs::InPlace::reads), unfolding(condition::specs::Bytes::return_of, row::specs::Row::line_start))]
+fn carriage_return(s: &mut [u8; PACKED])
     ensures { condition_in s.new ≡ return_of (condition_in s.old) }
 {
     let x = s[CURSOR];
@@ -99,8 +97,8 @@ fn carriage_return(s: &mut [u8])
 }
 
 // A character in mode 3 at column 19.
-fn push(s: &mut [u8], b: u8)
-    requires { 200 ≤ length s.old }
+#[tactic(auto, using(crate::proofs::InPlace::reads), unfolding(condition::specs::Bytes::push_of))]
+fn push(s: &mut [u8; PACKED], b: u8)
     ensures { condition_in s.new ≡ push_of (condition_in s.old) b }
 {
     let on = s[SCROLLING];
@@ -110,12 +108,13 @@ fn push(s: &mut [u8], b: u8)
     }
     let x = s[CURSOR];
     put(s, x, b);
-    set_scrolling(s, 1);
+    set_scrolling(s, true);
 }
 
 // 20h-FFh, and a user code.
-pub(crate) fn write(s: &mut [u8], b: u8)
-    requires { (200 ≤ length s.old) × (get_or s.old 3 0 < 40) }
+#[tactic(auto, using(crate::proofs::InPlace::reads), unfolding(condition::specs::Bytes::write_of))]
+pub(crate) fn write(s: &mut [u8; PACKED], b: u8)
+    requires { get_or s.old 3 0 < 40 }
     ensures { condition_in s.new ≡ write_of (condition_in s.old) b }
 {
     let x = s[CURSOR];
@@ -134,39 +133,36 @@ pub(crate) fn write(s: &mut [u8], b: u8)
 }
 
 // 18h to 1Bh: the font, Euro, and ESC. Any other byte is ignored.
-fn select(s: &mut [u8], b: u8)
-    requires { 200 ≤ length s.old }
+fn select(s: &mut [u8; PACKED], b: u8)
     ensures { condition_in s.new ≡ select_of (condition_in s.old) b }
 {
     match b {
         0x18 => international(s),
         0x19 => katakana(s),
         0x1a => euro_on(s),
-        0x1b => set_pending(s, 1, 0, 0),
+        0x1b => set_pending(s, Pending::Escape),
         _ => {}
     }
 }
 
 // 11h to 17h: the mode, and the cursor shown or not.
-fn setting(s: &mut [u8], b: u8)
-    requires { 200 ≤ length s.old }
+fn setting(s: &mut [u8; PACKED], b: u8)
     ensures { condition_in s.new ≡ setting_of (condition_in s.old) b }
 {
     match b {
         0x11 => set_mode(s, 1),
         0x12 => set_mode(s, 2),
         0x13 => set_mode(s, 3),
-        0x14 => set_shown(s, 0),
-        0x15 => set_shown(s, 1),
-        0x16 => set_shown(s, 0),
-        0x17 => set_shown(s, 0),
+        0x14 | 0x16 | 0x17 => set_shown(s, false),
+        0x15 => set_shown(s, true),
         _ => select(s, b),
     }
 }
 
 // A byte that is no character; those that are not named are ignored.
-pub(crate) fn control(s: &mut [u8], b: u8)
-    requires { (200 ≤ length s.old) × (get_or s.old 3 0 < 40) }
+#[tactic(auto, unfolding(condition::specs::Bytes::control_of))]
+pub(crate) fn control(s: &mut [u8; PACKED], b: u8)
+    requires { get_or s.old 3 0 < 40 }
     ensures { condition_in s.new ≡ control_of (condition_in s.old) b }
 {
     match b {
@@ -175,8 +171,7 @@ pub(crate) fn control(s: &mut [u8], b: u8)
         0x0a => down(s),
         0x0c => go_to(s, 0),
         0x0d => carriage_return(s),
-        0x0e => clear(s),
-        0x0f => clear(s),
+        0x0e | 0x0f => clear(s),
         _ => setting(s, b),
     }
 }

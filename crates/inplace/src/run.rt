@@ -1,6 +1,5 @@
 // A byte, and then bytes in turn, on the packed bytes.
-ghost use Rattle.std.specs.Prelude.{◌≡◌, true, ◌≤◌, ◌<◌, length, get_or, eqb};
-ghost use Rattle.laws.specs.Flags.{flag};
+ghost use Rattle.std.specs.Prelude.{◌≡◌, true, ◌≤◌, ◌<◌, length, get_or};
 ghost use Rattle.condition.specs.Condition.{well_formed};
 ghost use Rattle.condition.specs.Bytes.{write_of, step_of};
 ghost use Rattle.condition.specs.Busy.{write_busy, quick_figure};
@@ -13,11 +12,11 @@ use crate::characters::{alters, is_user, reindex};
 use crate::commands::{control, write};
 use crate::parameters::continued;
 use condition::Figures;
-use layout::{FLICKERLESS, KIND};
+use layout::{CODE, FLICKERLESS, HOLDS, KIND, PACKED};
 
 // A character is written; the answer is its quick busy figure.
-fn character(s: &mut [u8], b: u8) -> u8
-    requires { (200 ≤ length s.old) × (get_or s.old 3 0 < 40) }
+fn character(s: &mut [u8; PACKED], b: u8) -> u8
+    requires { get_or s.old 3 0 < 40 }
     ensures { (condition_in s.new ≡ write_of (condition_in s.old) b)
         × (result ≡ write_busy (condition_in s.old)) }
 {
@@ -28,16 +27,16 @@ fn character(s: &mut [u8], b: u8) -> u8
 
 // What a byte that continues a half-received command does; the answer is its quick busy figure. The entries are built anew only
 // where it may change the user characters.
-fn parameter(s: &mut [u8], index: &mut [u8], b: u8) -> u8
-    requires { (200 ≤ length s.old) × (0 < get_or s.old 13 0) × LentIndex index.old (condition_in s.old) }
+fn parameter(s: &mut [u8; PACKED], index: &mut [u8], b: u8) -> u8
+    requires { (0 < get_or s.old 13 0) × LentIndex index.old (condition_in s.old) }
     ensures { (condition_in s.new ≡ step_of (condition_in s.old) b)
         × (result ≡ quick_figure (condition_in s.old) b)
         × LentIndex index.new (condition_in s.new) }
 {
-    let figure = continued_busy(s, b);
-    let anew = alters(s, b);
-    continued(s, b);
-    if anew {
+    let half = layout::pending_in(s[KIND], s[CODE], s[HOLDS]);
+    continued(s, half, b);
+    let figure = continued_busy(half, b);
+    if alters(half, b) {
         reindex(s, index);
     }
     figure
@@ -45,12 +44,12 @@ fn parameter(s: &mut [u8], index: &mut [u8], b: u8) -> u8
 
 // What a byte does; the answer is its busy figures. Whether flickerless is on is looked at before the byte is carried out, which
 // may change it. Printable bytes are told first: they are the most.
-fn step(s: &mut [u8], index: &mut [u8], b: u8) -> Figures
-    requires { (200 ≤ length s.old) × (get_or s.old 3 0 < 40) × LentIndex index.old (condition_in s.old) }
+fn step(s: &mut [u8; PACKED], index: &mut [u8], b: u8) -> Figures
+    requires { (get_or s.old 3 0 < 40) × LentIndex index.old (condition_in s.old) }
     ensures { Stepped (condition_in s.old) b (condition_in s.new) result
         × LentIndex index.new (condition_in s.new) }
 {
-    let on = s[FLICKERLESS];
+    let on = s[FLICKERLESS] == 1;
     let kind = s[KIND];
     if kind != 0 {
         return figures(parameter(s, index, b), on);
@@ -66,34 +65,24 @@ fn step(s: &mut [u8], index: &mut [u8], b: u8) -> Figures
     figures(quick, on)
 }
 
-fn one_if(on: u8) -> u32
-    ensures { (result ≡ flag (eqb on 1)) × (result ≤ 1) }
-{
-    if on == 1 { 1 } else { 0 }
-}
-
 // What bytes do, in turn. The entries stay those of the list.
-pub(crate) fn run_in(s: &mut [u8], index: &mut [u8], bytes: &[u8]) -> Spent
-    requires { (200 ≤ length s.old) × (well_formed (condition_in s.old) ≡ true) × (length bytes.now ≤ 32768)
+pub(crate) fn run_in(s: &mut [u8; PACKED], index: &mut [u8], bytes: &[u8]) -> Spent
+    requires { (well_formed (condition_in s.old) ≡ true) × (length bytes.now ≤ 32768)
         × LentIndex index.old (condition_in s.old) }
     ensures { Carried (condition_in s.old) bytes.now
         (condition_in s.new) result
         × LentIndex index.new (condition_in s.new) }
 {
-    let mut busy: u32 = 0;
-    let mut flickerless: u32 = 0;
-    let mut worst: u32 = 0;
-    let mut i: usize = 0;
-    while i < bytes.len() {
-        flickerless += one_if(s[FLICKERLESS]);
-        let took = step(s, index, bytes[i]);
-        busy += took.quick as u32;
-        worst += took.worst as u32;
-        i += 1;
+    let mut spent = Spent {
+        busy: 0,
+        flickerless: 0,
+        worst: 0,
+    };
+    for b in bytes {
+        spent.flickerless += u32::from(s[FLICKERLESS] == 1);
+        let took = step(s, index, *b);
+        spent.busy += u32::from(took.quick);
+        spent.worst += u32::from(took.worst);
     }
-    Spent {
-        busy: busy,
-        flickerless: flickerless,
-        worst: worst,
-    }
+    spent
 }

@@ -34,7 +34,7 @@ run_in-spent-requires c =
     let f = (goal.at.run_in-spent-requires c).After-is_formed in
     let w = well f c.if-not-is_formed-agree.false in
     let e = starts _ _ _ (sized f) c.packed-s.ensures (search rules) c.reindex.ensures w in
-    (search rules, e, search rules, c.reindex.ensures)
+    (e, search rules, c.reindex.ensures)
 
 pub returns : goal.returns
 returns c =

@@ -6,4 +6,4 @@ pub returns : goal.returns
 returns c =
     let a = c.args in
     blank-by a.s.now _ _ a.font (search rules) (search rules) (search rules)
-    c.clear.ensures c.clear-2.ensures
+    (c.fill.ensures.after (λ y e. e)) (c.fill-2.ensures.after (λ y e. e))

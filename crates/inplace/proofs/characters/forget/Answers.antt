@@ -3,6 +3,4 @@ use borrow.Author.Rules.{rules}
 use Rattle.inplace.proofs.characters.forget.Goals as goal
 
 pub returns : goal.returns
-returns c =
-    let s = c.args.s.now in
-    forget-by s _ (search rules) (search rules) c.clear.ensures
+returns c = forget-by c.args.s.now _ (search rules) (search rules) (c.fill.ensures.after (λ y e. e))

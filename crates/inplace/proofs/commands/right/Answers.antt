@@ -1,26 +1,13 @@
 use mathlib.Core.Path.{◌∙◌, ap}
 use Rattle.condition.specs.declared.Condition.{Condition}
 use Rattle.condition.specs.Set.{with_cursor}
-use Rattle.inplace.proofs.Branches.{right-one, right-stays, right-next, right-home, right-scroll}
+use Rattle.inplace.proofs.Branches.{right-next, right-scroll}
 use Rattle.inplace.proofs.commands.right.Goals as goal
-
-pub returns-then-below_19 : goal.returns-then-below_19
-returns-then-below_19 c =
-    c.move_to.ensures ∙ right-one _ _ c.below_19.ensures c.if-below_19.true
-
-pub returns-then-m-eq3 : goal.returns-then-m-eq3
-returns-then-m-eq3 c = right-stays _ _ c.below_19.ensures c.if-below_19.false c.if-m-eq3.true
 
 pub returns-then-x-eq-LAST_COLUMN : goal.returns-then-x-eq-LAST_COLUMN
 returns-then-x-eq-LAST_COLUMN c =
     c.move_to-then-x-eq-LAST_COLUMN.ensures
     ∙ right-next _ _ c.below_19.ensures c.if-below_19.false c.if-m-eq3.false c.if-x-eq-LAST_COLUMN.true
-
-pub returns-then-m-eq1 : goal.returns-then-m-eq1
-returns-then-m-eq1 c =
-    c.move_to-then-m-eq1.ensures
-    ∙ right-home _ _ c.below_19.ensures c.if-below_19.false c.if-m-eq3.false c.if-x-eq-LAST_COLUMN.false
-    c.if-m-eq1.true
 
 pub returns : goal.returns
 returns c =

@@ -1,8 +1,8 @@
-use Rattle.inplace.proofs.InPlace.{reset_by}
+use Rattle.inplace.proofs.InPlace.{reset-in}
 use borrow.Author.Rules.{rules}
 use Rattle.inplace.proofs.parameters.reset.Goals as goal
 
 pub returns : goal.returns
 returns c =
     let a = c.args in
-    reset_by a.s.now _ a.link (search rules) c.copy.ensures
+    rw c.copy_from_slice.ensures.after (reset-in a.s.now a.link (search rules))

@@ -1,48 +1,47 @@
 use native.Mathlib.Omega.{arith}
 use borrow.Author.Rules.{rules}
-use Rattle.inplace.proofs.Running.{going-starts, going-place, going-most, going-turns, going-ends}
+use lib.Dec.{eqb}
+use lib.ListN.{get_or}
+use mathlib.Core.Path.{◌∙◌}
+use Rattle.inplace.proofs.Running.{flag-byte, flag-most, going-starts, going-place, going-most, going-turns, going-ends}
 use Rattle.inplace.proofs.run.run_in.Goals as goal
 
-pub loop-i-init : goal.loop-i-init
-loop-i-init c =
+pub loop-b-init : goal.loop-b-init
+loop-b-init c =
     let p = c.requires in
-    (going-starts _ _ p.0 p.1, p.2, search rules, search rules, p.3)
+    (going-starts _ _ (search rules) p.0, p.1, p.2)
 
-pub bounds-s-12 : goal.bounds-s-12
-bounds-s-12 c = omega (arith, c.loop-i.invariant.0.room)
-
-pub overflow_add-flickerless : goal.overflow_add-flickerless
-overflow_add-flickerless c =
-    let l = c.loop-i.invariant in
-    omega (arith, c.one_if-flickerless.ensures.1, (going-most _ _ _ _ _ _ _ l.0 l.1).1)
+pub overflow_add-spent : goal.overflow_add-spent
+overflow_add-spent c =
+    let l = c.loop-b.invariant in
+    omega (arith, c.from.ensures, flag-most (eqb (get_or c.loop-b.s 12 0) 1), (going-most _ _ _ _ _ _ _ l.0 l.1).1)
 
 pub step-took-requires : goal.step-took-requires
 step-took-requires c =
-    let l = c.loop-i.invariant in
-    (l.0.room, going-place _ _ _ _ _ _ _ l.0, l.4)
+    let l = c.loop-b.invariant in
+    (going-place _ _ _ _ _ _ _ l.0, l.2)
 
-pub overflow_add-busy : goal.overflow_add-busy
-overflow_add-busy c =
-    let l = c.loop-i.invariant in
+pub overflow_add-spent-in-loop-b : goal.overflow_add-spent-in-loop-b
+overflow_add-spent-in-loop-b c =
+    let l = c.loop-b.invariant in
     omega (arith, (going-most _ _ _ _ _ _ _ l.0 l.1).0)
 
-pub overflow_add-worst : goal.overflow_add-worst
-overflow_add-worst c =
-    let l = c.loop-i.invariant in
+pub overflow_add-spent-in-loop-b-2 : goal.overflow_add-spent-in-loop-b-2
+overflow_add-spent-in-loop-b-2 c =
+    let l = c.loop-b.invariant in
     omega (arith, (going-most _ _ _ _ _ _ _ l.0 l.1).2)
 
-pub loop-i-preserved : goal.loop-i-preserved
-loop-i-preserved c =
-    let l = c.loop-i in (
-      going-turns _ _ _ _ _ _ _ l.invariant.0 _ _ _ c.loop-i-test.true (search rules) (search rules)
-          c.step-took.ensures.0 c.one_if-flickerless.ensures.0,
+pub loop-b-preserved : goal.loop-b-preserved
+loop-b-preserved c =
+    let l = c.loop-b in
+    rw (c.from-in-loop-b.ensures, c.from-in-loop-b-2.ensures) (
+      going-turns _ _ _ _ _ _ _ l.invariant.0 _ _ _ c.loop-b-test.true (search rules) (search rules)
+          c.step-took.ensures.0 (c.from.ensures ∙ flag-byte _),
       l.invariant.1,
-      search rules,
-      search rules,
       c.step-took.ensures.1,
     )
 
 pub returns : goal.returns
 returns c =
-    let l = c.loop-i.invariant in
-    (going-ends _ _ _ _ _ _ _ l.0 c.loop-i-test.false, l.4)
+    let l = c.loop-b.invariant in
+    (going-ends _ _ _ _ _ _ _ l.0 c.loop-b-test.false, l.2)

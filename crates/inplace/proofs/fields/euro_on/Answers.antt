@@ -1,6 +1,0 @@
-use Rattle.inplace.proofs.InPlace.{stores}
-use borrow.Author.Rules.{rules}
-use Rattle.inplace.proofs.fields.euro_on.Goals as goal
-
-pub returns : goal.returns
-returns c = search (stores, rules)
