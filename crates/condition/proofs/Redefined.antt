@@ -7,7 +7,7 @@ use native.Mathlib.Omega.{arith}
 use lib.ListN.{length, set, drop, drop_of_length-le}
 use lib.Seq.{sets-eq}
 use Rattle.users.specs.Users.{is_user, found_of}
-use Rattle.users.specs.declared.Found.TheVariants.{At}
+use Rattle.std.specs.Prelude.{Some}
 use Rattle.users.proofs.Replaced.{Replaced, again}
 use Rattle.condition.specs.declared.Condition.{Condition}
 use Rattle.condition.specs.declared.Pending.TheVariants.{Nothing}
@@ -24,7 +24,7 @@ held-four h d1 d2 d3 d4 e =
     sets-eq (d1 ∷ d2 ∷ d3 ∷ d4 ∷ []) h 0 (omega arith) ∙ rw none
 
 pub redefined : (c : Condition) (k code d1 d2 d3 d4 d5 : ℕ) → Sized c → well_formed c ≡ true → c.pending ≡ Nothing
-    → is_user c.users 0x1b ≡ false → found_of c.users code ≡ At k
+    → is_user c.users 0x1b ≡ false → found_of c.users code ≡ Some k
     → Replaced c.users k code (d1 ∷ d2 ∷ d3 ∷ d4 ∷ []) (d5 % 16)
     (run_of c (0x1b ∷ 0x43 ∷ code ∷ d1 ∷ d2 ∷ d3 ∷ d4 ∷ d5 ∷ [])).users
 unfolding run_of step_at escape_of data_of

@@ -1,11 +1,13 @@
 -- The condition (document 01, The condition): positions, power-up, and what is well formed.
 use Rattle.std.specs.Prelude.{ℕ, ◌%◌, Bool, true, false, cond, not, ◌&&◌, ◌||◌, replicate, eqb, ltb, leb}
+use Rattle.std.specs.Prelude.{Result, Ok, Err}
+use Rattle.refusals.specs.declared.Refusal.{Refusal}
+use Rattle.refusals.specs.Refusals.{number_of}
 use Rattle.row.specs.Row.{all_up_to}
 use Rattle.users.specs.declared.Users.{Users}
 use Rattle.users.specs.Users.{absent, places_formed, held_formed}
 use Rattle.index.specs.Index.{index_agrees}
 use Rattle.condition.specs.declared.Condition.{Condition}
-use Rattle.condition.specs.declared.Outcome.{Outcome}
 use Rattle.condition.specs.declared.Pending.{Pending}
 use Rattle.condition.specs.declared.Pending.TheVariants.{Nothing, Escape, Position, Luminance, Speed, UserCode, UserData}
 
@@ -90,8 +92,17 @@ power_up f =
       held = replicate 4 0;
     }
 
--- What power-up answers (Refusal numbers and their order): a refusal number, 0 when accepted, and the condition. 3: font link above
--- 1; a refused power-up returns power-up for font 0
+-- What a reading or a power-up answers: a refusal number, 0 when accepted, and a condition
+pub record Outcome : Type 0 where
+  pub refusal : ℕ
+  pub condition : Condition
+
+-- the code's answer in these words: a refused one returns power-up for font 0
+abbrev pub outcome : Result Condition Refusal → Outcome
+outcome (Ok c) = record { refusal = 0; condition = c }
+outcome (Err refusal) = record { refusal = number_of refusal; condition = power_up 0 }
+
+-- What power-up answers (Refusal numbers and their order): 3: font link above 1; a refused power-up returns power-up for font 0
 unfoldable pub power_up_answer : ℕ → Outcome
 power_up_answer font =
     cond (leb font 1) (record { refusal = 0; condition = power_up font }) (record { refusal = 3; condition = power_up 0 })

@@ -3,10 +3,11 @@
 
 ghost use Rattle.std.specs.Prelude.{◌≡◌};
 ghost use Rattle.condition.specs.Condition.{idle, held_of, numbers_good};
-ghost use Rattle.condition.specs.Condition.{scroll_good, well_formed, power_up, power_up_answer};
+ghost use Rattle.condition.specs.Condition.{scroll_good, well_formed, power_up, outcome, power_up_answer};
 ghost use Rattle.condition.specs.Rows.{rows_good};
 
-use users::Users;
+use refusals::Refusal;
+use users::{UserList, Users};
 
 // The half-received command. A user character's data has its code and the count of bytes held.
 #[derive(Clone, Copy)]
@@ -46,13 +47,6 @@ pub struct Condition {
     pub held: [u8; Condition::HELD],
 }
 
-// What a reading or power-up gives: a refusal number, 0 when accepted, and a condition.
-#[derive(Clone, Copy)]
-pub struct Outcome {
-    pub refusal: u8,
-    pub condition: Condition,
-}
-
 // A byte's busy time, in microseconds: the quick figure, and the worst one, which flickerless mode may reach.
 #[derive(Clone, Copy)]
 pub struct Figures {
@@ -60,69 +54,58 @@ pub struct Figures {
     pub worst: u16,
 }
 
-// No command is half received.
-pub fn is_idle(p: Pending) -> bool
-    ensures { result ≡ idle p }
-{
-    match p {
-        Pending::Nothing => true,
-        Pending::Escape => false,
-        Pending::Position => false,
-        Pending::Luminance => false,
-        Pending::Speed => false,
-        Pending::UserCode => false,
-        Pending::UserData(_, _) => false,
+impl Pending {
+    // No command is half received.
+    pub fn is_idle(self) -> bool
+        ensures { result ≡ idle self }
+    {
+        matches!(self, Pending::Nothing)
     }
-}
 
-fn held_of(p: Pending) -> u8
-    ensures { result ≡ held_of p }
-{
-    match p {
-        Pending::Nothing => 0,
-        Pending::Escape => 0,
-        Pending::Position => 0,
-        Pending::Luminance => 0,
-        Pending::Speed => 0,
-        Pending::UserCode => 0,
-        Pending::UserData(_, n) => n,
+    // How many bytes are held of a user character's data.
+    pub fn held(self) -> u8
+        ensures { result ≡ held_of self }
+    {
+        match self {
+            Pending::UserData(_, n) => n,
+            _ => 0,
+        }
     }
 }
 
 // The rows of a condition are as they should be: the cells' fonts, the user characters, and what is held of one that is being
 // received. They may stand in a condition or in bytes; more than 16 user characters, or a row of another length, never are.
-pub fn rows_good(fonts: &[u8], count: u8, users: &[u8], pending: Pending, held: &[u8]) -> bool
-    ensures { result ≡ rows_good fonts.now count users.now pending held.now }
+pub fn rows_good(fonts: &[u8], users: &UserList, pending: Pending, held: &[u8]) -> bool
+    ensures { result ≡ rows_good fonts.now users.now.count users.now.bytes.now pending held.now }
 {
     if fonts.len() != Condition::CELLS {
         return false;
     }
-    if users.len() != Users::BYTES {
+    if users.bytes.len() != Users::BYTES {
         return false;
     }
     if held.len() != Condition::HELD {
         return false;
     }
-    if Condition::MOST_USERS < count {
+    if Condition::MOST_USERS < users.count {
         return false;
     }
     row::up_to(Condition::LAST_FONT, fonts)
-        & users::are_formed(users, count, Condition::FIFTH)
-        & users::held_formed(held_of(pending), held)
-        & (is_idle(pending) | !users::is_found(users::find(users, count, 0x1b)))
+        & users.are_formed(Condition::FIFTH)
+        & users::held_formed(pending.held(), held)
+        & (pending.is_idle() | !users.is_user(0x1b))
 }
 
 fn numbers_good(c: Condition) -> bool
     ensures { result ≡ numbers_good c }
 {
-    let u = c.users;
     ((c.cursor as usize) < Condition::CELLS)
         & (1 <= c.mode)
         & (c.mode <= Condition::LAST_MODE)
         & (c.font <= Condition::LAST_FONT)
         & (c.link <= Condition::LAST_FONT)
         & (c.luminance <= Condition::FULL_LUMINANCE)
-        & (u.count <= Condition::MOST_USERS)
+        & (c.users.count <= Condition::MOST_USERS)
 }
 
 fn scroll_good(c: Condition) -> bool
@@ -157,62 +140,50 @@ impl Condition {
     pub const FIFTH: u8 = 16;
 
     // Power-up for a font, whatever its number.
-    fn powered(font: u8) -> Condition
+    pub fn powered(font: u8) -> Condition
         ensures { result ≡ power_up font }
     {
-        let users = Users {
-            bytes: [0u8; Users::BYTES],
-            count: 0,
-        };
         Condition {
-            codes: [0x20u8; Condition::CELLS],
+            codes: [0x20; Condition::CELLS],
             fonts: [font; Condition::CELLS],
             cursor: 0,
             mode: 1,
             scrolling: false,
             shown: false,
-            font: font,
+            font,
             link: font,
             euro: false,
             luminance: Condition::FULL_LUMINANCE,
             speed: 0x14,
             flickerless: false,
-            users: users,
-            index: [0u8; index::ENTRIES],
+            users: Users {
+                bytes: [0; Users::BYTES],
+                count: 0,
+            },
+            index: [0; index::ENTRIES],
             pending: Pending::Nothing,
-            held: [0u8; Condition::HELD],
+            held: [0; Condition::HELD],
         }
     }
 
     // Power-up for a default font.
-    pub fn power_up(font: u32) -> Outcome
-        ensures { result ≡ power_up_answer font }
+    pub fn power_up(font: u32) -> Result<Condition, Refusal>
+        ensures { outcome result ≡ power_up_answer font }
     {
-        if font <= Condition::LAST_FONT as u32 {
-            return Outcome {
-                refusal: 0,
-                condition: Condition::powered(font as u8),
-            };
+        if u32::from(Condition::LAST_FONT) < font {
+            return Err(Refusal::OutOfRange);
         }
-        Outcome {
-            refusal: 3,
-            condition: Condition::powered(0),
-        }
+        Ok(Condition::powered(font as u8))
     }
 
     // Whether the condition is well formed.
     pub fn well_formed(self) -> bool
         ensures { result ≡ well_formed self }
     {
-        let u = self.users;
-        let bytes = u.bytes;
-        let fonts = self.fonts;
-        let p = self.pending;
-        let held = self.held;
-        let index = self.index;
+        let users = self.users.list();
         numbers_good(self)
             & scroll_good(self)
-            & rows_good(&fonts, u.count, &bytes, p, &held)
-            & index::agrees(&bytes, u.count, &index)
+            & rows_good(&self.fonts, &users, self.pending, &self.held)
+            & index::agrees(&users, &self.index)
     }
 }

@@ -8,7 +8,7 @@ use lib.ListN.{length, get_or, set, replicate, length-set, length-replicate, get
 use lib.Seq.{get_or-set_same, get_or-set_other}
 use borrow.Author.Tests.{eqb-true, eqb-false}
 use Rattle.laws.proofs.Tests.{by-test}
-use Rattle.users.specs.declared.Found.{Found}
+use Rattle.std.specs.Prelude.{Option, None, Some}
 use Rattle.users.specs.Users.{place_of, limit_of, found_in}
 use Rattle.index.specs.Index.{entry_of, index_of}
 use Rattle.index.proofs.Entries.{is-index}
@@ -36,7 +36,7 @@ module _ (us : List ℕ) (n : ℕ) where
           let e : n - k ≡ suc (n - (k + 1)) = omega arith in
           let z : i < length x = omega (arith, b.size) in
           rw e
-          (by-test (λ (f : Found). get_or (set x code (k + 1)) i 0 ≡ entry_of f) (eqb code i)
+          (by-test (λ (f : Option ℕ). get_or (set x code (k + 1)) i 0 ≡ entry_of f) (eqb code i)
           (λ t. let y : code ≡ i = eqb-true code i t in rw y (get_or-set_same x i (k + 1) 0 z))
           (λ t. get_or-set_other x code i (k + 1) 0 (λ d. eqb-false code i t (sym d)) ∙ b.entry i l))
 

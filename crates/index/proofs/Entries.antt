@@ -10,9 +10,9 @@ use lib.ListN.{length, get_or, replicate, length-replicate, get_or-replicate}
 use lib.Seq.{ext_get_or}
 use borrow.Author.Tests.{ne_eqb}
 use Rattle.row.proofs.Alike.{same_refl, same-eq}
-use Rattle.users.specs.declared.Found.{Found}
-use Rattle.users.specs.declared.Found.TheVariants.{Missing, At}
-use Rattle.users.specs.Users.{limit_of, found_in, is_found}
+use Rattle.std.specs.Prelude.{Option, None, Some}
+use Rattle.std.specs.Option.{is_some}
+use Rattle.users.specs.Users.{limit_of, found_in}
 use Rattle.users.proofs.Laws.{found_below}
 use Rattle.index.specs.Index.{entry_of, entries_from, index_of, index_agrees}
 
@@ -50,9 +50,9 @@ pub entry-most : (us : List ℕ) (count code : ℕ) → entry_of (found_in us co
 unfolding limit_of
 entry-most us count code = go (found_in us count code) (λ k e. found_below us count code k e)
   where
-    go : (f : Found) → ((k : ℕ) → f ≡ At k → k < limit_of us count) → entry_of f ≤ count
-    go Missing h = omega arith
-    go (At k) h = let l : k < limit_of us count = h k refl in omega arith
+    go : (f : Option ℕ) → ((k : ℕ) → f ≡ Some k → k < limit_of us count) → entry_of f ≤ count
+    go None h = omega arith
+    go (Some k) h = let l : k < limit_of us count = h k refl in omega arith
 
 -- entries built for any number of codes are as many
 pub as_many : (x us : List ℕ) (n count : ℕ) → x ≡ index_of n us count → x ≡ index_of (length x) us count
@@ -67,9 +67,9 @@ index-none n us = sym (is-index n us 0 (replicate n 0) (length-replicate n 0) (�
     none i = let e : limit_of us 0 ≡ 0 = omega arith in rw e
 
 -- a code has an entry that is not 0 exactly where a user character sits on it
-pub looked-up : (f : Found) → not (eqb (entry_of f) 0) ≡ is_found f
-looked-up Missing = refl
-looked-up (At k) = rw (ne_eqb (k + 1) 0 (λ e. omega arith))
+pub looked-up : (f : Option ℕ) → not (eqb (entry_of f) 0) ≡ is_some f
+looked-up None = refl
+looked-up (Some k) = rw (ne_eqb (k + 1) 0 (λ e. omega arith))
 
 -- Agreement ----------------------------------------------------------------------------------------------------------------
 

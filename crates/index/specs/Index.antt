@@ -1,14 +1,12 @@
 -- The index of user codes (document 02, W9): from code to place in the list, 0 for none, otherwise 1 to 16.
-use Rattle.std.specs.Prelude.{ℕ, zero, suc, ◌+◌, List, [], ◌∷◌, Bool}
+use Rattle.std.specs.Prelude.{ℕ, zero, suc, ◌+◌, Option, None, Some, List, [], ◌∷◌, Bool}
 use Rattle.row.specs.Row.{same_bytes}
-use Rattle.users.specs.declared.Found.{Found}
-use Rattle.users.specs.declared.Found.TheVariants.{Missing, At}
 use Rattle.users.specs.Users.{found_in}
 
 -- a place of the list, the oldest being 0, as an entry: 0 for none, otherwise counted from 1
-abbrev pub entry_of : Found → ℕ
-entry_of Missing = 0
-entry_of (At k) = k + 1
+abbrev pub entry_of : Option ℕ → ℕ
+entry_of None = 0
+entry_of (Some k) = k + 1
 
 -- the entries of n codes from `code` on, of the list that is the first `count` places of six bytes
 unfoldable pub entries_from : List ℕ → ℕ → ℕ → ℕ → List ℕ

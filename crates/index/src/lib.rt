@@ -5,31 +5,29 @@
 ghost use Rattle.std.specs.Prelude.{◌≡◌, length};
 ghost use Rattle.index.specs.Index.{index_of, index_agrees};
 
-use users::Users;
+use users::{UserList, Users};
 
 // An entry for each code.
 pub const ENTRIES: usize = 256;
 
 // The entries of a list, as many as there is room for. They are put from the youngest place to the oldest: a code that stands in
 // two places has the first.
-pub fn build(bytes: &[u8], count: u8, entries: &mut [u8])
-    ensures { entries.new ≡ index_of (length entries.old) bytes.now count }
+pub fn build(list: &UserList, entries: &mut [u8])
+    ensures { entries.new ≡ index_of (length entries.old) list.now.bytes.now list.now.count }
 {
-    row::clear(entries, 0);
-    let mut k = users::limit(bytes, count);
-    while 0 < k {
-        k -= 1;
-        let code = bytes[k * Users::PLACE];
+    entries.fill(0);
+    for k in (0..list.limit()).rev() {
+        let code = list.bytes[k * Users::PLACE];
         let entry = (k + 1) as u8;
         row::put(entries, code, entry);
     }
 }
 
 // The entries are those of the list, one for each code.
-pub fn agrees(bytes: &[u8], count: u8, entries: &[u8]) -> bool
-    ensures { result ≡ index_agrees entries.now bytes.now count }
+pub fn agrees(list: &UserList, entries: &[u8]) -> bool
+    ensures { result ≡ index_agrees entries.now list.now.bytes.now list.now.count }
 {
     let mut built = [0u8; ENTRIES];
-    build(bytes, count, &mut built);
+    build(list, &mut built);
     row::same(entries, &built)
 }

@@ -13,7 +13,8 @@ use Rattle.laws.proofs.Tests.{both, by_cases, clash}
 use Rattle.row.specs.Row.{all_up_to}
 use Rattle.row.proofs.Ranges.{up-to-at, at-up-to, up-to-drop}
 use Rattle.users.specs.declared.Users.{Users}
-use Rattle.users.specs.Users.{room_of, is_found, is_user, found_in, define_of, absent, places_formed, users_formed, held_formed}
+use Rattle.std.specs.Option.{is_some}
+use Rattle.users.specs.Users.{room_of, is_user, found_in, define_of, absent, places_formed, users_formed, held_formed}
 use Rattle.users.proofs.Places.{Places, not-user, new-not-user, define-places, define-most, define-length}
 
 -- the places after the first
@@ -113,7 +114,7 @@ define-users-formed bound u code held last r low e =
     (define-formed bound u code held last r (leb-true u.count (room_of u.bytes) p.0) low p.1)
 
 -- the lookup finds no code that stands in none of the places, and every other
-pub absent-unfound : (us : List ℕ) (count x : ℕ) → count ≤ room_of us → not (is_found (found_in us count x)) ≡ absent x count us
+pub absent-unfound : (us : List ℕ) (count x : ℕ) → count ≤ room_of us → not (is_some (found_in us count x)) ≡ absent x count us
 unfolding is_user
 absent-unfound us count x l =
     let u : Users = record { bytes = us; count = count } in

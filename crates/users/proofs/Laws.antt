@@ -10,17 +10,16 @@ use lib.Dec.{eqb, ltb}
 use borrow.Author.Tests.{ne_eqb, le-ltb, ltb-true, ltb-false}
 use Rattle.laws.proofs.Tests.{by-test}
 use Rattle.users.specs.declared.Users.{Users}
-use Rattle.users.specs.declared.Found.{Found}
-use Rattle.users.specs.declared.Found.TheVariants.{Missing, At}
+use Rattle.std.specs.Prelude.{Option, None, Some}
 use Rattle.users.specs.Users.{place_of, room_of, limit_of, found_in, users_in, in_room, leaving_by, leaving_of, without}
 use Rattle.users.specs.Users.{with_youngest}
 use Rattle.users.specs.Users.{define_of, define_in}
 
-pub place-below : (us : List ℕ) (code n k j : ℕ) → place_of us code n k ≡ At j → j < k + n
+pub place-below : (us : List ℕ) (code n k j : ℕ) → place_of us code n k ≡ Some j → j < k + n
 place-below us code zero k j e = let z : ◌≡◌ {A = ℕ} 0 1 = cc in omega arith
 place-below us code (suc n) k j e = go (eqb (get_or us (k * 6) 0) code) e (λ h. place-below us code n (k + 1) j h)
   where
-    go : (t : Bool) → cond t (At k) (place_of us code n (k + 1)) ≡ At j → (place_of us code n (k + 1) ≡ At j → j < k + 1 + n)
+    go : (t : Bool) → cond t (Some k) (place_of us code n (k + 1)) ≡ Some j → (place_of us code n (k + 1) ≡ Some j → j < k + 1 + n)
         → j < k + suc n
     go true h l = let z : k ≡ j = cc in omega arith
     go false h l = let m : j < k + 1 + n = l h in omega arith
@@ -31,38 +30,38 @@ unfolding limit_of room_of
 limit-byte us count h = omega arith
 
 -- a place that is found is in use
-pub found_below : (us : List ℕ) (count code j : ℕ) → found_in us count code ≡ At j → j < limit_of us count
+pub found_below : (us : List ℕ) (count code j : ℕ) → found_in us count code ≡ Some j → j < limit_of us count
 unfolding found_in
 found_below us count code j e = omega (arith, place-below us code (limit_of us count) 0 j e)
 
 -- bytes are below 256, so no user character has a code above 255
-place-above : (us : List ℕ) (code n k : ℕ) → ((i : ℕ) → get_or us i 0 < 256) → 255 < code → place_of us code n k ≡ Missing
+place-above : (us : List ℕ) (code n k : ℕ) → ((i : ℕ) → get_or us i 0 < 256) → 255 < code → place_of us code n k ≡ None
 place-above us code zero k bytes l = refl
 place-above us code (suc n) k bytes l =
     let other : get_or us (k * 6) 0 ≡ code → ⊥ = λ e. omega (arith, bytes (k * 6)) in
     rw (ne_eqb (get_or us (k * 6) 0) code other) (place-above us code n (k + 1) bytes l)
 
-pub none_above : (us : List ℕ) (count code : ℕ) → ((i : ℕ) → get_or us i 0 < 256) → 255 < code → found_in us count code ≡ Missing
+pub none_above : (us : List ℕ) (count code : ℕ) → ((i : ℕ) → get_or us i 0 < 256) → 255 < code → found_in us count code ≡ None
 unfolding found_in
 none_above us count code bytes l = place-above us code (limit_of us count) 0 bytes l
 
 -- The place that goes when a code is defined ------------------------------------------------------------------------------------
 
 -- the code's own, none, or the oldest: what holds of each of them holds of the place that goes
-pub by-leaving : (u : Users) (P : Found → Type 0) (f : Found) → ((k : ℕ) → f ≡ At k → P (At k))
-    → (f ≡ Missing → u.count < room_of u.bytes → P Missing) → (f ≡ Missing → room_of u.bytes ≤ u.count → P (At 0))
+pub by-leaving : (u : Users) (P : Option ℕ → Type 0) (f : Option ℕ) → ((k : ℕ) → f ≡ Some k → P (Some k))
+    → (f ≡ None → u.count < room_of u.bytes → P None) → (f ≡ None → room_of u.bytes ≤ u.count → P (Some 0))
     → P (leaving_by f u)
-by-leaving u P (At k) own free full = own k refl
-by-leaving u P Missing own free full =
+by-leaving u P (Some k) own free full = own k refl
+by-leaving u P None own free full =
     by-test P (ltb u.count (room_of u.bytes)) (λ t. free refl (ltb-true u.count (room_of u.bytes) t))
     (λ t. full refl (omega (arith, ltb-false u.count (room_of u.bytes) t)))
 
 -- it is in use; where none goes, there is room for one more
-abbrev pub Fits : List ℕ → ℕ → Found → Type 0
-Fits us n (At k) = (k < n) × (n ≤ room_of us)
-Fits us n Missing = n < room_of us
+abbrev pub Fits : List ℕ → ℕ → Option ℕ → Type 0
+Fits us n (Some k) = (k < n) × (n ≤ room_of us)
+Fits us n None = n < room_of us
 
-pub leaving-fits : (us : List ℕ) (count code n : ℕ) (f : Found) → 0 < room_of us → n ≡ limit_of us count
+pub leaving-fits : (us : List ℕ) (count code n : ℕ) (f : Option ℕ) → 0 < room_of us → n ≡ limit_of us count
     → f ≡ leaving_of (users_in us count) code → Fits us n f
 unfolding limit_of
 leaving-fits us count code n f h l e =
@@ -70,7 +69,7 @@ leaving-fits us count code n f h l e =
     (λ k found. (found_below us count code k found, omega arith)) (λ _ m. m) (λ _ m. (omega arith, omega arith)))
 
 -- where there is room for a place, and by the place that goes
-pub defines : (us : List ℕ) (count code : ℕ) (held : List ℕ) (last n : ℕ) (f : Found) → 6 ≤ length us → n ≡ limit_of us count
+pub defines : (us : List ℕ) (count code : ℕ) (held : List ℕ) (last n : ℕ) (f : Option ℕ) → 6 ≤ length us → n ≡ limit_of us count
     → f ≡ leaving_of (users_in us count) code
     → with_youngest (without f (users_in us n)) code held last ≡ define_in us count code held last
 unfolding define_in define_of

@@ -12,9 +12,9 @@ use borrow.Author.Tests.{eqb-true, eqb-false}
 use Rattle.laws.proofs.Tests.{by_cases, by-test, by_equal}
 use Rattle.laws.proofs.Lists.{sets-else, sets-there}
 use Rattle.users.specs.declared.Users.{Users}
-use Rattle.users.specs.declared.Found.{Found}
-use Rattle.users.specs.declared.Found.TheVariants.{Missing, At}
-use Rattle.users.specs.Users.{place_of, room_of, limit_of, found_in, found_of, is_found, is_user, six_of, put_of}
+use Rattle.std.specs.Prelude.{Option, None, Some}
+use Rattle.std.specs.Option.{is_some}
+use Rattle.users.specs.Users.{place_of, room_of, limit_of, found_in, found_of, is_user, six_of, put_of}
 use Rattle.users.specs.Users.{users_in, in_room, leaving_of, removed, without, with_youngest, define_of}
 use Rattle.users.proofs.Removal.{came, removed-length, left_at, rest_at}
 use Rattle.users.proofs.Laws.{found_below, by-leaving, Fits, leaving-fits}
@@ -32,19 +32,19 @@ room_for us n h l = omega arith
 
 -- Where the lookup finds a code ---------------------------------------------------------------------------------------------
 
-pub place-holds : (us : List ℕ) (code n k j : ℕ) → place_of us code n k ≡ At j → get_or us (j * 6) 0 ≡ code
+pub place-holds : (us : List ℕ) (code n k j : ℕ) → place_of us code n k ≡ Some j → get_or us (j * 6) 0 ≡ code
 place-holds us code zero k j e = cc
 place-holds us code (suc n) k j e =
-    by-test (λ (f : Found). f ≡ At j → get_or us (j * 6) 0 ≡ code) (eqb (get_or us (k * 6) 0) code)
+    by-test (λ (f : Option ℕ). f ≡ Some j → get_or us (j * 6) 0 ≡ code) (eqb (get_or us (k * 6) 0) code)
     (λ h f. let z : j ≡ k = cc in rw z (eqb-true (get_or us (k * 6) 0) code h))
     (λ _ f. place-holds us code n (k + 1) j f)
     e
 
 pub place-misses : (us : List ℕ) (code n k i : ℕ)
-    → place_of us code n k ≡ Missing → k ≤ i → i < k + n → get_or us (i * 6) 0 ≡ code → ⊥
+    → place_of us code n k ≡ None → k ≤ i → i < k + n → get_or us (i * 6) 0 ≡ code → ⊥
 place-misses us code zero k i e h l f = omega arith
 place-misses us code (suc n) k i e h l f =
-    by-test (λ (g : Found). g ≡ Missing → ⊥) (eqb (get_or us (k * 6) 0) code) (λ _ m. let y : ◌≡◌ {A = ℕ} 0 1 = cc in omega arith)
+    by-test (λ (g : Option ℕ). g ≡ None → ⊥) (eqb (get_or us (k * 6) 0) code) (λ _ m. let y : ◌≡◌ {A = ℕ} 0 1 = cc in omega arith)
     (λ z m.
     let y : i ≡ k → ⊥ = λ d. eqb-false (get_or us (k * 6) 0) code z (rw d at f) in
     place-misses us code n (k + 1) i m (omega arith) (omega arith) f)
@@ -57,12 +57,12 @@ module _ (us : List ℕ) (count : ℕ) (l : count ≤ room_of us) where
   unfolding limit_of
   limit-count = omega arith
 
-  pub found-holds : (code j : ℕ) → found_in us count code ≡ At j → (j < count) × (get_or us (j * 6) 0 ≡ code)
+  pub found-holds : (code j : ℕ) → found_in us count code ≡ Some j → (j < count) × (get_or us (j * 6) 0 ≡ code)
   unfolding found_in
   found-holds code j e =
       (omega (arith, found_below us count code j e, limit-count), place-holds us code (limit_of us count) 0 j e)
 
-  pub found-misses : (code : ℕ) → found_in us count code ≡ Missing → (i : ℕ) → i < count → get_or us (i * 6) 0 ≡ code → ⊥
+  pub found-misses : (code : ℕ) → found_in us count code ≡ None → (i : ℕ) → i < count → get_or us (i * 6) 0 ≡ code → ⊥
   unfolding found_in
   found-misses code e i m = place-misses us code (limit_of us count) 0 i e (omega arith) (omega (arith, limit-count))
 
@@ -142,7 +142,7 @@ record Ready (bound code : ℕ) (u : Users) : Type 0 where
 module _ (bound : ℕ) (us : List ℕ) (count code : ℕ) (l : count ≤ room_of us) (p : Places bound count us) where
   -- the place k is taken out, and no other has the code
   ready_at : (k : ℕ) → k < count → ((i : ℕ) → i < count → get_or us (i * 6) 0 ≡ code → i ≡ k)
-      → Ready bound code (without (At k) (users_in us count))
+      → Ready bound code (without (Some k) (users_in us count))
   unfolding without room_of
   ready_at k h only =
       let youngest = count - 1 in
@@ -157,7 +157,7 @@ module _ (bound : ℕ) (us : List ℕ) (count code : ℕ) (l : count ≤ room_of
   ready : 0 < room_of us → Ready bound code (without (leaving_of (users_in us count) code) (in_room (users_in us count)))
   unfolding without room_of
   ready r =
-      rw (limit-count us count l) (by-leaving (users_in us count) (λ (f : Found). Ready bound code (without f (users_in us count)))
+      rw (limit-count us count l) (by-leaving (users_in us count) (λ (f : Option ℕ). Ready bound code (without f (users_in us count)))
       (found_in us count code)
       (λ k e. let f = found-holds us count l code k e in ready_at k f.0 (λ i m y. p.apart i k m f.0 (y ∙ sym f.1)))
       (λ e m. record { places = p; new = found-misses us count l code e; fits = omega arith })
@@ -173,11 +173,11 @@ define-places bound u code l p held last r low =
 
 -- How many there are then, and in how many bytes ----------------------------------------------------------------------------------
 
-without-fits : (u : Users) (f : Found) → Fits u.bytes u.count f
+without-fits : (u : Users) (f : Option ℕ) → Fits u.bytes u.count f
     → ((without f u).count < room_of u.bytes) × (length (without f u).bytes ≡ length u.bytes)
 unfolding without room_of
-without-fits u (At k) h = (omega arith, removed-length u.bytes k (u.count - 1) (omega arith) (omega arith))
-without-fits u Missing h = (h, refl)
+without-fits u (Some k) h = (omega arith, removed-length u.bytes k (u.count - 1) (omega arith) (omega arith))
+without-fits u None h = (h, refl)
 
 left-fits : (u : Users) (code : ℕ) → 0 < room_of u.bytes
     → ((without (leaving_of u code) (in_room u)).count < room_of u.bytes)
@@ -199,28 +199,28 @@ pub not-user : (u : Users) (code : ℕ) → u.count ≤ room_of u.bytes → is_u
 unfolding is_user
 not-user u code l e = found-misses u.bytes u.count l code (missing (found_of u code) e)
   where
-    missing : (f : Found) → is_found f ≡ false → f ≡ Missing
-    missing Missing d = refl
-    missing (At k) d = cc
+    missing : (f : Option ℕ) → is_some f ≡ false → f ≡ None
+    missing None d = refl
+    missing (Some k) d = cc
 
 -- and on one that stands in no place none sits
 pub new-not-user : (u : Users) (x : ℕ) → New x u.count u.bytes → u.count ≤ room_of u.bytes → is_user u x ≡ false
 unfolding is_user
 new-not-user u x new l = go (found_of u x) refl
   where
-    go : (f : Found) → found_of u x ≡ f → is_found f ≡ false
-    go Missing e = refl
-    go (At k) e = let p = found-holds u.bytes u.count l x k e in absurd (new k p.0 p.1)
+    go : (f : Option ℕ) → found_of u x ≡ f → is_some f ≡ false
+    go None e = refl
+    go (Some k) e = let p = found-holds u.bytes u.count l x k e in absurd (new k p.0 p.1)
 
 -- On which codes user characters sit then -----------------------------------------------------------------------------------------
 
 -- a code that stands in no place stands in none of those that are left
-without-new : (u : Users) (x : ℕ) (f : Found) → Fits u.bytes u.count f → New x u.count u.bytes
+without-new : (u : Users) (x : ℕ) (f : Option ℕ) → Fits u.bytes u.count f → New x u.count u.bytes
     → New x (without f u).count (without f u).bytes
 unfolding without room_of
-without-new u x (At k) h new =
+without-new u x (Some k) h new =
     λ i m y. new (came k i) (omega arith) (sym (code-left u.bytes k (u.count - 1) (omega arith) (omega arith) i m) ∙ y)
-without-new u x Missing h new = new
+without-new u x None h new = new
 
 module _ (u : Users) (code : ℕ) (held : List ℕ) (last : ℕ) (r : 0 < room_of u.bytes) where
   abbrev left : Users

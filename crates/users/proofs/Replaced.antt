@@ -8,8 +8,8 @@ use lib.ListN.{length, get_or, drop}
 use lib.Seq.{ext_get_or, get_or-take, get_or-drop}
 use borrow.Author.Tests.{le-ltb}
 use Rattle.laws.proofs.Lists.{part_length}
+use Rattle.std.specs.Prelude.{None, Some}
 use Rattle.users.specs.declared.Users.{Users}
-use Rattle.users.specs.declared.Found.TheVariants.{Missing, At}
 use Rattle.users.specs.Users.{room_of, found_of, place_at, six_of, put_of, users_in, leaving_of, removed, without}
 use Rattle.users.specs.Users.{with_youngest, define_of}
 use Rattle.users.proofs.Laws.{leaving-fits}
@@ -32,7 +32,7 @@ six-at a x i h l f =
     (λ j n. get_or-take 6 (drop (i * 6) a) j 0 (omega arith) ∙ get_or-drop (i * 6) a j 0 ∙ f j (omega arith))
 
 module _ (u : Users) (k code : ℕ) (held : List ℕ) (last : ℕ) (l : u.count ≤ room_of u.bytes) (r : 0 < room_of u.bytes)
-    (e : leaving_of u code ≡ At k) where
+    (e : leaving_of u code ≡ Some k) where
   abbrev left : List ℕ
   left = removed k (u.count - 1) u.bytes
 
@@ -45,7 +45,7 @@ module _ (u : Users) (k code : ℕ) (held : List ℕ) (last : ℕ) (l : u.count 
 
   in_use : k < u.count
   in_use =
-      (leaving-fits u.bytes u.count code u.count (At k) r (sym (limit-count u.bytes u.count l)) (sym e)).0
+      (leaving-fits u.bytes u.count code u.count (Some k) r (sym (limit-count u.bytes u.count l)) (sym e)).0
 
   there : (u.count - 1) * 6 + 6 ≤ length u.bytes
   unfolding room_of
@@ -79,14 +79,14 @@ module _ (u : Users) (k code : ℕ) (held : List ℕ) (last : ℕ) (l : u.count 
       })
 
 -- a code defined again: its own place goes
-pub again : (u : Users) (k code : ℕ) (held : List ℕ) (last : ℕ) → u.count ≤ room_of u.bytes → found_of u code ≡ At k
+pub again : (u : Users) (k code : ℕ) (held : List ℕ) (last : ℕ) → u.count ≤ room_of u.bytes → found_of u code ≡ Some k
     → Replaced u k code held last (define_of u code held last)
 again u k code held last l e =
     replaced u k code held last l (omega (arith, found-holds u.bytes u.count l code k e)) (rw e)
 
 -- a new code, with all places in use: the oldest goes
 pub full : (u : Users) (code : ℕ) (held : List ℕ) (last : ℕ) → u.count ≡ room_of u.bytes → 0 < room_of u.bytes
-    → found_of u code ≡ Missing → Replaced u 0 code held last (define_of u code held last)
+    → found_of u code ≡ None → Replaced u 0 code held last (define_of u code held last)
 full u code held last l r e =
     let m = limit-count u.bytes u.count (omega arith) in
     replaced u 0 code held last (omega arith) r (rw (e, m, le-ltb u.count (room_of u.bytes) (omega arith)))

@@ -1,18 +1,17 @@
 -- User characters (document 01, The condition; document 02, W3, W8): code and five bytes, oldest first, in places of six bytes, as
 -- many as the bytes have room for: 16 in a condition, eight in that of the lounge module.
-use Rattle.std.specs.Prelude.{ℕ, zero, suc, ◌+◌, ◌-◌, ◌*◌, ◌/◌, min, List, [], ◌∷◌, ◌++◌, Bool, true, false, cond, not, ◌&&◌}
+use Rattle.std.specs.Prelude.{ℕ, zero, suc, ◌+◌, ◌-◌, ◌*◌, ◌/◌, min, Option, None, Some, List, [], ◌∷◌, ◌++◌, Bool, true, false, cond, not, ◌&&◌}
+use Rattle.std.specs.Option.{is_some}
 use Rattle.std.specs.Prelude.{length, get_or, take, drop, replicate, eqb, ltb, leb}
 use Rattle.std.proofs.lemmas.List.Edits.{sets}
 use Rattle.row.specs.Row.{all_up_to}
 use Rattle.users.specs.declared.Users.{Users}
 use Rattle.dots.specs.declared.Character.{Character}
-use Rattle.users.specs.declared.Found.{Found}
-use Rattle.users.specs.declared.Found.TheVariants.{Missing, At}
 
 -- the first of the n places from k on that holds the code
-abbrev pub place_of : List ℕ → ℕ → ℕ → ℕ → Found
-place_of us code zero k = Missing
-place_of us code (suc n) k = cond (eqb (get_or us (k * 6) 0) code) (At k) (place_of us code n (k + 1))
+abbrev pub place_of : List ℕ → ℕ → ℕ → ℕ → Option ℕ
+place_of us code zero k = None
+place_of us code (suc n) k = cond (eqb (get_or us (k * 6) 0) code) (Some k) (place_of us code n (k + 1))
 
 -- how many places the bytes have room for, and no more than a byte counts
 unfoldable pub room_of : List ℕ → ℕ
@@ -23,19 +22,15 @@ unfoldable pub limit_of : List ℕ → ℕ → ℕ
 limit_of us count = min count (room_of us)
 
 -- the lookup of a code
-unfoldable pub found_in : List ℕ → ℕ → ℕ → Found
+unfoldable pub found_in : List ℕ → ℕ → ℕ → Option ℕ
 found_in us count code = place_of us code (limit_of us count) 0
 
-abbrev pub found_of : Users → ℕ → Found
+abbrev pub found_of : Users → ℕ → Option ℕ
 found_of u code = found_in u.bytes u.count code
-
-abbrev pub is_found : Found → Bool
-is_found Missing = false
-is_found (At k) = true
 
 -- a user character sits on the code
 unfoldable pub is_user : Users → ℕ → Bool
-is_user u code = is_found (found_of u code)
+is_user u code = is_some (found_of u code)
 
 abbrev pub five_zeros : Character
 five_zeros = record { d1 = 0; d2 = 0; d3 = 0; d4 = 0; d5 = 0 }
@@ -72,11 +67,11 @@ abbrev pub in_room : Users → Users
 in_room u = users_in u.bytes (limit_of u.bytes u.count)
 
 -- The place that goes when a code is defined: the code's own; where it has none, with all places in use, the oldest
-abbrev pub leaving_by : Found → Users → Found
-leaving_by (At k) u = At k
-leaving_by Missing u = cond (ltb u.count (room_of u.bytes)) Missing (At 0)
+abbrev pub leaving_by : Option ℕ → Users → Option ℕ
+leaving_by (Some k) u = Some k
+leaving_by None u = cond (ltb u.count (room_of u.bytes)) None (Some 0)
 
-abbrev pub leaving_of : Users → ℕ → Found
+abbrev pub leaving_of : Users → ℕ → Option ℕ
 leaving_of u code = leaving_by (found_of u code) (in_room u)
 
 -- the place k taken out of those up to the youngest: what stands before it, what stands after it, a place of 0, and the rest
@@ -85,9 +80,9 @@ removed k youngest us =
     take (k * 6) us ++ take ((youngest - k) * 6) (drop (k * 6 + 6) us) ++ replicate 6 0 ++ drop (youngest * 6 + 6) us
 
 -- without the place that goes: those after it are each one place earlier, so that no gap is left
-unfoldable pub without : Found → Users → Users
-without Missing u = u
-without (At k) u = users_in (removed k (u.count - 1) u.bytes) (u.count - 1)
+unfoldable pub without : Option ℕ → Users → Users
+without None u = u
+without (Some k) u = users_in (removed k (u.count - 1) u.bytes) (u.count - 1)
 
 -- the code with its five bytes comes last, the youngest
 unfoldable pub with_youngest : Users → ℕ → List ℕ → ℕ → Users

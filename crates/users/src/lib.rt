@@ -3,7 +3,7 @@
 #![tactic(auto)]
 
 ghost use Rattle.std.specs.Prelude.{◌≡◌, ◌+◌, ◌*◌, ◌≤◌, length};
-ghost use Rattle.users.specs.Users.{room_of, limit_of, found_in, is_found, character_at, put_of};
+ghost use Rattle.users.specs.Users.{room_of, limit_of, found_in, is_user, character_at, put_of};
 ghost use Rattle.users.specs.Users.{users_in, leaving_of, removed, define_in};
 ghost use Rattle.users.specs.Users.{absent, users_formed, held_formed};
 
@@ -12,6 +12,13 @@ use dots::Character;
 #[derive(Clone, Copy)]
 pub struct Users {
     pub bytes: [u8; Users::BYTES],
+    pub count: u8,
+}
+
+// The list of them where it stands: bytes of any length, and how many places are in use.
+#[derive(Clone, Copy)]
+pub struct UserList<'a> {
+    pub bytes: &'a [u8],
     pub count: u8,
 }
 
@@ -26,79 +33,110 @@ impl Users {
     // The bytes that are held of a character until its fifth comes.
     pub const HELD: usize = 4;
 
-    // The bytes of two places.
-    const TWO: usize = 12;
-}
-
-// The lookup of a code: its place, counted from the oldest, or none.
-#[derive(Clone, Copy)]
-pub enum Found {
-    Missing,
-    At(usize),
+    pub fn list(&self) -> UserList
+        ensures { (result.bytes.now ≡ self.now.bytes) × (result.count ≡ self.now.count) }
+    {
+        UserList {
+            bytes: &self.bytes,
+            count: self.count,
+        }
+    }
 }
 
 // How many places the bytes have room for, and no more than a byte counts.
 fn room(bytes: &[u8]) -> usize
     ensures { result ≡ room_of bytes.now }
 {
-    let places = bytes.len() / Users::PLACE;
-    if places < 255 { places } else { 255 }
+    (bytes.len() / Users::PLACE).min(255)
 }
 
-// As many places as are in use, and no more than there is room for.
-pub fn limit(bytes: &[u8], count: u8) -> usize
-    ensures { (result ≡ limit_of bytes.now count) × (6 * result ≤ length bytes.now) }
-{
-    let places = bytes.len() / Users::PLACE;
-    let n = count as usize;
-    if n < places { n } else { places }
-}
+impl UserList<'_> {
+    // As many places as are in use, and no more than there is room for.
+    pub fn limit(&self) -> usize
+        ensures { (result ≡ limit_of self.now.bytes.now self.now.count) × (6 * result ≤ length self.now.bytes.now) }
+    {
+        (self.count as usize).min(self.bytes.len() / Users::PLACE)
+    }
 
-// The place of a code among the first `count`.
-pub fn find(bytes: &[u8], count: u8, code: u8) -> Found
-    ensures { result ≡ found_in bytes.now count code }
-{
-    let n = limit(bytes, count);
-    let mut k: usize = 0;
-    while k < n {
-        if bytes[k * Users::PLACE] == code {
-            return Found::At(k);
+    // The place of a code among those in use, counted from the oldest.
+    pub fn find(&self, code: u8) -> Option<usize>
+        ensures { result ≡ found_in self.now.bytes.now self.now.count code }
+    {
+        let n = self.limit();
+        for k in 0..n {
+            if self.bytes[k * Users::PLACE] == code {
+                return Some(k);
+            }
         }
-        k += 1;
+        None
     }
-    Found::Missing
-}
 
-pub fn is_found(f: Found) -> bool
-    ensures { result ≡ is_found f }
-{
-    match f {
-        Found::Missing => false,
-        Found::At(_) => true,
+    // A user character sits on the code.
+    pub fn is_user(&self, code: u8) -> bool
+        ensures { result ≡ is_user (users_in self.now.bytes.now self.now.count) code }
+    {
+        self.find(code).is_some()
     }
 }
 
-// The five bytes at a place; a place that is not there has five 0.
-pub fn character_at(bytes: &[u8], place: usize) -> Character
-    ensures { result ≡ character_at bytes.now place }
+impl UserList<'_> {
+    // The five bytes at a place; a place that is not there has five 0.
+    pub fn character_at(&self, place: usize) -> Character
+        ensures { result ≡ character_at self.now.bytes.now place }
+    {
+        if self.bytes.len() / Users::PLACE <= place {
+            return Character {
+                d1: 0,
+                d2: 0,
+                d3: 0,
+                d4: 0,
+                d5: 0,
+            };
+        }
+        let at = place * Users::PLACE;
+        Character {
+            d1: self.bytes[at + 1],
+            d2: self.bytes[at + 2],
+            d3: self.bytes[at + 3],
+            d4: self.bytes[at + 4],
+            d5: self.bytes[at + 5],
+        }
+    }
+
+    // No code stands twice in the places in use, each fifth byte is below the bound, and the other places are 0. More than there is
+    // room for are never formed.
+    pub fn are_formed(&self, bound: u8) -> bool
+        ensures { result ≡ users_formed bound self.now.bytes.now self.now.count }
+    {
+        let n = self.count as usize;
+        if room(self.bytes) < n {
+            return false;
+        }
+        for k in 0..n {
+            let at = k * Users::PLACE;
+            let rest = &self.bytes[at + Users::PLACE..];
+            if bound <= self.bytes[at + 5] {
+                return false;
+            }
+            if !is_absent(self.bytes[at], n - k - 1, rest) {
+                return false;
+            }
+        }
+        row::up_to(0, &self.bytes[n * Users::PLACE..])
+    }
+}
+
+// The code x stands in none of the first n places of s.
+fn is_absent(x: u8, n: usize, s: &[u8]) -> bool
+    requires { 6 * n ≤ length s.now }
+    ensures { result ≡ absent x n s.now }
 {
-    if bytes.len() / Users::PLACE <= place {
-        return Character {
-            d1: 0,
-            d2: 0,
-            d3: 0,
-            d4: 0,
-            d5: 0,
-        };
+    for k in 0..n {
+        if s[k * Users::PLACE] == x {
+            return false;
+        }
     }
-    let at = place * Users::PLACE;
-    Character {
-        d1: bytes[at + 1],
-        d2: bytes[at + 2],
-        d3: bytes[at + 3],
-        d4: bytes[at + 4],
-        d5: bytes[at + 5],
-    }
+    true
 }
 
 // A character's six bytes from `at` on.
@@ -115,16 +153,17 @@ fn put(bytes: &mut [u8], at: usize, code: u8, held: [u8; 4], last: u8)
 }
 
 // The place that goes when a code is defined: its own; where it has none, with all places in use, the oldest.
-fn leaving(bytes: &[u8], count: u8, code: u8) -> Found
+fn leaving(bytes: &[u8], count: u8, code: u8) -> Option<usize>
     ensures { result ≡ leaving_of (users_in bytes.now count) code }
 {
-    if let Found::At(k) = find(bytes, count, code) {
-        return Found::At(k);
+    let list = UserList { bytes, count };
+    if let Some(k) = list.find(code) {
+        return Some(k);
     }
-    if limit(bytes, count) < room(bytes) {
-        Found::Missing
+    if list.limit() < room(bytes) {
+        None
     } else {
-        Found::At(0)
+        Some(0)
     }
 }
 
@@ -133,14 +172,12 @@ fn remove(bytes: &mut [u8], k: usize, youngest: usize)
     requires { (k ≤ youngest) × (youngest * 6 + 6 ≤ length bytes.old) }
     ensures { bytes.new ≡ removed k youngest bytes.old }
 {
-    let mut i = k;
-    while i < youngest {
-        let at = i * Users::PLACE;
-        row::advance(&mut bytes[at..at + Users::TWO], Users::PLACE);
-        i += 1;
-    }
-    let at = youngest * Users::PLACE;
-    row::clear(&mut bytes[at..at + Users::PLACE], 0);
+    let end = youngest * Users::PLACE;
+    bytes.copy_within(
+        k * Users::PLACE + Users::PLACE..end + Users::PLACE,
+        k * Users::PLACE,
+    );
+    bytes[end..end + Users::PLACE].fill(0);
 }
 
 // A code with its five bytes comes last, the youngest. The place that it had is taken out; where it had none and all places are
@@ -152,8 +189,8 @@ pub fn define(bytes: &mut [u8], count: u8, code: u8, held: [u8; 4], last: u8) ->
     if bytes.len() < Users::PLACE {
         return count;
     }
-    let n = limit(bytes, count);
-    if let Found::At(k) = leaving(bytes, count, code) {
+    let n = UserList { bytes, count }.limit();
+    if let Some(k) = leaving(bytes, count, code) {
         let youngest = n - 1;
         remove(bytes, k, youngest);
         put(bytes, youngest * Users::PLACE, code, held, last);
@@ -161,48 +198,6 @@ pub fn define(bytes: &mut [u8], count: u8, code: u8, held: [u8; 4], last: u8) ->
     }
     put(bytes, n * Users::PLACE, code, held, last);
     (n + 1) as u8
-}
-
-// The code x stands in none of the first n places of s.
-fn is_absent(x: u8, n: usize, s: &[u8]) -> bool
-    requires { 6 * n ≤ length s.now }
-    ensures { result ≡ absent x n s.now }
-{
-    let mut left = n;
-    let mut at = 0;
-    while 0 < left {
-        if s[at] == x {
-            return false;
-        }
-        at += Users::PLACE;
-        left -= 1;
-    }
-    true
-}
-
-// No code stands twice in the first `count` places, each fifth byte is below the bound, and the other places are 0. More than
-// there is room for are never formed.
-pub fn are_formed(bytes: &[u8], count: u8, bound: u8) -> bool
-    ensures { result ≡ users_formed bound bytes.now count }
-{
-    let mut left = count as usize;
-    if room(bytes) < left {
-        return false;
-    }
-    let mut at = 0;
-    while 0 < left {
-        let x = bytes[at];
-        let d = bytes[at + 5];
-        left -= 1;
-        at += Users::PLACE;
-        if bound <= d {
-            return false;
-        }
-        if !is_absent(x, left, &bytes[at..]) {
-            return false;
-        }
-    }
-    row::up_to(0, &bytes[at..])
 }
 
 // Of a character that is being received 0 to 4 bytes are held; those from the count up are 0.

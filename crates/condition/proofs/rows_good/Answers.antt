@@ -3,7 +3,7 @@ use mathlib.Core.Path.{◌≡◌}
 use Prim.Native.Nat.{◌/◌, min}
 use native.Mathlib.Omega.{arith}
 use lib.ListN.{length}
-use Rattle.users.specs.Users.{room_of, users_formed}
+use Rattle.users.specs.Users.{room_of, is_user, users_formed}
 use Rattle.users.proofs.Formed.{absent-unfound}
 use Rattle.condition.specs.Rows.{rows_good}
 use Rattle.condition.proofs.rows_good.Goals as goal
@@ -21,23 +21,23 @@ unfolding rows_good
 returns-then-held-ne-HELD c = rw
     (eq-eqb _ _ c.if-fonts-ne-CELLS.false, eq-eqb _ _ c.if-users-ne-BYTES.false, ne_eqb _ _ c.if-held-ne-HELD.true)
 
-pub returns-then-count-gt-MOST_USERS : goal.returns-then-count-gt-MOST_USERS
+pub returns-then-users-gt-MOST_USERS : goal.returns-then-users-gt-MOST_USERS
 unfolding rows_good
-returns-then-count-gt-MOST_USERS c =
+returns-then-users-gt-MOST_USERS c =
     rw (
       eq-eqb _ _ c.if-fonts-ne-CELLS.false,
       eq-eqb _ _ c.if-users-ne-BYTES.false,
       eq-eqb _ _ c.if-held-ne-HELD.false,
-      lt-leb _ _ c.if-count-gt-MOST_USERS.true,
+      lt-leb _ _ c.if-users-gt-MOST_USERS.true,
     )
 
 pub returns : goal.returns
-unfolding rows_good users_formed room_of
+unfolding rows_good users_formed room_of is_user
 returns c =
     let a = c.args in
-    let l = c.if-count-gt-MOST_USERS.false in
-    let sized : length a.users.now ≡ 96 = c.if-users-ne-BYTES.false in
-    rw (c.is_found.ensures, c.find.ensures, c.is_idle.ensures, c.held_formed.ensures, c.held_of.ensures)
-    (rw (c.are_formed.ensures, c.up_to.ensures, absent-unfound a.users.now a.count 0x1b (omega arith))
+    let l = c.if-users-gt-MOST_USERS.false in
+    let sized : length a.users.now.bytes.now ≡ 96 = c.if-users-ne-BYTES.false in
+    rw (c.is_user.ensures, c.is_idle.ensures, c.held_formed.ensures, c.held.ensures)
+    (rw (c.are_formed.ensures, c.up_to.ensures, absent-unfound a.users.now.bytes.now a.users.now.count 0x1b (omega arith))
     (rw (eq-eqb _ _ c.if-fonts-ne-CELLS.false, eq-eqb _ _ sized)
-    (rw (eq-eqb _ _ c.if-held-ne-HELD.false, le-leb _ _ l, le-leb a.count (min 255 (length a.users.now / 6)) (omega arith)))))
+    (rw (eq-eqb _ _ c.if-held-ne-HELD.false, le-leb _ _ l, le-leb a.users.now.count (min 255 (length a.users.now.bytes.now / 6)) (omega arith)))))

@@ -2,7 +2,7 @@ use Prim.Native.Nat.{ℕ}
 use mathlib.Core.Path.{ap, ◌∙◌}
 use native.Mathlib.Omega.{arith}
 use lib.ListN.{length, length-replicate}
-use Rattle.users.specs.Users.{limit_of}
+use Rattle.users.specs.Users.{room_of, limit_of}
 use Rattle.index.specs.Index.{index_of}
 use Rattle.index.proofs.Building.{built-none, built-put, built-all}
 use Rattle.index.proofs.build.Goals as goal
@@ -11,7 +11,7 @@ pub loop-k-init : goal.loop-k-init
 unfolding limit_of
 loop-k-init c =
     let e = c.limit-k.ensures.0 in
-    let z = c.clear.ensures in (
+    let z = c.fill.ensures.after in (
       omega (arith, e),
       omega arith,
       omega (arith, e, c.limit-k.ensures.1),
@@ -28,14 +28,16 @@ loop-k-preserved c =
     )
 
 pub shape_of-entries : goal.shape_of-entries
-shape_of-entries c =
-    c.loop-k.invariant.3.size
-    ∙ ap length c.clear.ensures ∙ length-replicate _ _
+shape_of-entries c = c.loop-k.invariant.3.size ∙ rw (c.fill.ensures.after, length-replicate)
+
+pub overflow_cast-entry : goal.overflow_cast-entry
+unfolding limit_of room_of
+overflow_cast-entry c = omega (arith, c.loop-k.invariant)
 
 pub returns : goal.returns
 returns c =
     let a = c.args in
     let l = c.loop-k in
-    built-all a.bytes.now a.count l.k _ (omega arith) l.invariant.3
-    ∙ ap (λ (n : ℕ). index_of n a.bytes.now a.count)
-    (ap length c.clear.ensures ∙ length-replicate _ _)
+    built-all a.list.now.bytes.now a.list.now.count l.k _ (omega arith) l.invariant.3
+    ∙ ap (λ (n : ℕ). index_of n a.list.now.bytes.now a.list.now.count)
+    (rw (c.fill.ensures.after, length-replicate))

@@ -1,3 +1,4 @@
+use Prim.Native.Nat.{◌+◌, ◌-◌, ◌*◌}
 use mathlib.Core.Path.{◌≡◌, refl, sym, ◌∙◌}
 use native.Mathlib.Omega.{arith}
 use borrow.Author.Tests.{eq-eqb, ne_eqb}
@@ -5,26 +6,25 @@ use Rattle.users.specs.Users.{absent}
 use Rattle.users.proofs.Formed.{absent-step}
 use Rattle.users.proofs.is_absent.Goals as goal
 
-pub loop-left-init : goal.loop-left-init
-loop-left-init c = (refl, omega arith, omega arith)
-
-pub returns-then-s-at : goal.returns-then-s-at
-returns-then-s-at c =
+pub returns-then-s-k : goal.returns-then-s-k
+returns-then-s-k c =
     let a = c.args in
-    let l = c.loop-left in
-    sym (l.invariant.0 ∙ absent-step a.x l.left a.s.now l.at (omega arith) ∙ rw (eq-eqb _ _ c.if-s-at.true))
+    let l = c.loop-k in
+    sym (l.invariant.0 ∙ absent-step a.x (a.n - l.k) a.s.now (l.k * 6) (omega arith) ∙ rw (eq-eqb _ _ c.if-s-k.true))
 
-pub loop-left-preserved : goal.loop-left-preserved
-loop-left-preserved c =
+pub loop-k-preserved : goal.loop-k-preserved
+loop-k-preserved c =
     let a = c.args in
-    let l = c.loop-left in
-    let left = ne_eqb _ _ c.if-s-at.false in
-    (l.invariant.0 ∙ absent-step a.x l.left a.s.now l.at (omega arith) ∙ rw left, omega arith, omega arith)
+    let l = c.loop-k in
+    let left = ne_eqb _ _ c.if-s-k.false in
+    let next : l.k * 6 + 6 ≡ (l.k + 1) * 6 = omega arith in
+    let fewer : a.n - l.k - 1 ≡ a.n - (l.k + 1) = omega arith in
+    (l.invariant.0 ∙ absent-step a.x (a.n - l.k) a.s.now (l.k * 6) (omega arith) ∙ rw (left, next, fewer), l.invariant.1)
 
 pub returns : goal.returns
 unfolding absent
 returns c =
     let a = c.args in
-    let l = c.loop-left in
-    let z : l.left ≡ 0 = omega arith in
+    let l = c.loop-k in
+    let z : a.n - l.k ≡ 0 = omega arith in
     sym (l.invariant.0 ∙ rw z)

@@ -2,8 +2,8 @@ use mathlib.Core.Path.{sym, ◌∙◌}
 use borrow.Author.Tests.{lt-ltb, le-ltb}
 use Rattle.users.proofs.leaving.Goals as goal
 
-pub returns-in-At : goal.returns-in-At
-returns-in-At c = rw (sym c.find.ensures ∙ c.in-At.is)
+pub returns-in-Some : goal.returns-in-Some
+returns-in-Some c = rw (sym c.find.ensures ∙ c.in-Some.is)
 
 pub returns-then-limit-room : goal.returns-then-limit-room
 returns-then-limit-room c =

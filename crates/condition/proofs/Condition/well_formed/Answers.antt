@@ -15,7 +15,7 @@ pub returns : goal.returns
 unfolding well_formed
 returns c =
     rw (c.agrees.ensures, c.rows_good.ensures, c.scroll_good.ensures)
-    (rw c.numbers_good.ensures
+    (rw (c.numbers_good.ensures, c.list-users.ensures.0, c.list-users.ensures.1)
     (ap (λ (t : Bool). t && index_good c.args.self)
     (rows-law c.args.self (sized (goal.at.returns c).Start).0 (sized (goal.at.returns c).Start).1
     (sized (goal.at.returns c).Start).2)))
