@@ -4,6 +4,8 @@ use mathlib.Core.Logic.{◌≢◌}
 use mathlib.Core.List.{List, []}
 use Prim.Native.Nat.{ℕ, ◌+◌, ◌-◌, ◌%◌, ◌≤◌, ◌<◌, min}
 use native.Mathlib.Omega.{arith}
+use Rattle.std.specs.Ordering.{nat_cmp, ord_min}
+use Rattle.std.proofs.lemmas.Bool.Decides.{nat_tests}
 use lib.Dec.{eqb, leb}
 use lib.ListN.{length, replicate, length-append, length-replicate}
 use borrow.Author.Tests.{leb-true, leb-false, eqb-true, eqb-false}
@@ -14,6 +16,10 @@ use Rattle.moves.specs.Ways.{leaves, first_byte, path_of, path}
 use Rattle.moves.specs.Kinds.{line_of, column_of, apart, aside, onward, sideways, to_start, from_start, jump, shorter, of_four}
 use Rattle.moves.proofs.Moving.{length-path}
 use Rattle.moves.proofs.Grid.{listed, grid, same_at}
+
+-- the lesser of two numbers, as `min` of the library answers it
+pub min-is : (a b : ℕ) → ord_min nat_cmp a b ≡ min a b
+min-is a b = grind (arith, nat_tests)
 
 -- How long each is ----------------------------------------------------------------------------------------------------------------
 

@@ -8,21 +8,11 @@ use crate::lengths::{column, from_start, line, onward, sideways};
 use condition::Condition;
 
 // Puts the first n of three bytes.
-fn put_three(out: &mut [u8], n: u8, x: u8, y: u8, z: u8)
-    ensures { out.new ≡ sets out.old 0 (take n (x ∷ y ∷ z ∷ [])) }
+fn put_first(out: &mut [u8], n: u8, three: [u8; 3])
+    requires { n ≤ 3 }
+    ensures { out.new ≡ sets out.old 0 (take n three) }
 {
-    if n == 0 {
-        return;
-    }
-    row::put(out, 0, x);
-    if n == 1 {
-        return;
-    }
-    row::put(out, 1, y);
-    if n == 2 {
-        return;
-    }
-    row::put(out, 2, z);
+    row::copy(out, &three[..n as usize]);
 }
 
 // The byte that goes sideways: left or right.
@@ -31,9 +21,10 @@ fn aside(from: u8, to: u8) -> u8
     ensures { result ≡ aside from to }
 {
     if column(to) < column(from) {
-        return 0x08;
+        0x08
+    } else {
+        0x09
     }
-    0x09
 }
 
 // Puts the n bytes that lead sideways. To the other line the last of them is 0Ah.
@@ -41,8 +32,7 @@ fn put_sideways(out: &mut [u8], n: u8, from: u8, to: u8)
     requires { (from < 40) × (to < 40) × (n ≡ length (sideways from to)) × (n ≤ 3) }
     ensures { out.new ≡ sets out.old 0 (sideways from to) }
 {
-    let m = aside(from, to);
-    put_three(out, n, m, m, m);
+    put_first(out, n, [aside(from, to); 3]);
     if line(from) != line(to) {
         row::put(out, n - 1, 0x0a);
     }
@@ -54,14 +44,12 @@ fn put_from_start(out: &mut [u8], n: u8, from: u8, to: u8)
     ensures { out.new ≡ sets out.old 0 (from_start from to) }
 {
     if to < Condition::COLUMNS {
-        put_three(out, n, 0x0c, 0x09, 0x09);
-        return;
+        put_first(out, n, [0x0c, 0x09, 0x09]);
+    } else if from < Condition::COLUMNS {
+        put_first(out, n, [0x0a, 0x0d, 0x09]);
+    } else {
+        put_first(out, n, [0x0d, 0x09, 0x09]);
     }
-    if from < Condition::COLUMNS {
-        put_three(out, n, 0x0a, 0x0d, 0x09);
-        return;
-    }
-    put_three(out, n, 0x0d, 0x09, 0x09);
 }
 
 // Puts the way, which has n bytes: it is of the first kind that is so long.
@@ -70,16 +58,12 @@ pub(crate) fn put_kind(out: &mut [u8], n: u8, from: u8, to: u8)
     ensures { out.new ≡ sets out.old 0 (path from to) }
 {
     if onward(from, to) == n {
-        put_three(out, n, 0x09, 0x09, 0x09);
-        return;
-    }
-    if sideways(from, to) == n {
+        put_first(out, n, [0x09; 3]);
+    } else if sideways(from, to) == n {
         put_sideways(out, n, from, to);
-        return;
-    }
-    if from_start(from, to) == n {
+    } else if from_start(from, to) == n {
         put_from_start(out, n, from, to);
-        return;
+    } else {
+        put_first(out, n, [0x1b, 0x48, to]);
     }
-    put_three(out, n, 0x1b, 0x48, to);
 }

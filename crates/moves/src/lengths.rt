@@ -1,7 +1,7 @@
 // How long a way of each kind is (specs/Kinds).
 ghost use Rattle.std.specs.Prelude.{◌≡◌, true, ◌-◌, ◌<◌, ◌≤◌, min, length};
 ghost use Rattle.moves.specs.Moves.{dist};
-ghost use Rattle.moves.specs.Kinds.{line_of, column_of, apart, onward, sideways, from_start};
+ghost use Rattle.moves.specs.Kinds.{line_of, column_of, onward, sideways, from_start};
 
 use condition::Condition;
 
@@ -21,22 +21,10 @@ pub(crate) fn column(p: u8) -> u8
     ensures { result ≡ column_of p }
 {
     if p < Condition::COLUMNS {
-        return p;
+        p
+    } else {
+        p - Condition::COLUMNS
     }
-    p - Condition::COLUMNS
-}
-
-fn least(a: u8, b: u8) -> u8
-    ensures { result ≡ min a b }
-{
-    if a < b { a } else { b }
-}
-
-// How far two numbers are apart.
-fn apart(a: u8, b: u8) -> u8
-    ensures { result ≡ apart a b }
-{
-    if a < b { b - a } else { a - b }
 }
 
 // Onward, 09h for each place.
@@ -45,9 +33,10 @@ pub(crate) fn onward(from: u8, to: u8) -> u8
     ensures { result ≡ length (onward from to) }
 {
     if from <= to {
-        return to - from;
+        to - from
+    } else {
+        to + PLACES - from
     }
-    to + PLACES - from
 }
 
 // Sideways, a byte for each column, and 0Ah to the other line.
@@ -55,11 +44,12 @@ pub(crate) fn sideways(from: u8, to: u8) -> u8
     requires { (from < 40) × (to < 40) }
     ensures { result ≡ length (sideways from to) }
 {
-    let columns = apart(column(from), column(to));
+    let columns = column(from).abs_diff(column(to));
     if line(from) == line(to) {
-        return columns;
+        columns
+    } else {
+        columns + 1
     }
-    columns + 1
 }
 
 // From the start of the line: a byte that leads there, from the top line to the bottom one two, and 09h for each column.
@@ -68,10 +58,7 @@ pub(crate) fn from_start(from: u8, to: u8) -> u8
     ensures { result ≡ length (from_start from to) }
 {
     let n = 1 + column(to);
-    if line(from) < line(to) {
-        return n + 1;
-    }
-    n
+    if line(from) < line(to) { n + 1 } else { n }
 }
 
 // Onward or the jump has the fewest bytes: forward by at most 18, and not to column 0 or 1. They may where this says no.
@@ -79,16 +66,7 @@ fn forward(from: u8, to: u8) -> bool
     requires { (from < 40) × (to < 40) }
     ensures { result ≡ true → (from ≤ to) × (dist from to ≡ min (to - from) 3) }
 {
-    if column(to) < 2 {
-        return false;
-    }
-    if to < from {
-        return false;
-    }
-    if 18 < to - from {
-        return false;
-    }
-    true
+    2 <= column(to) && from <= to && to - from <= 18
 }
 
 // The fewest move bytes: the least of the four lengths. The fourth is that of 1Bh 48h and the place, 3.
@@ -98,9 +76,10 @@ pub(crate) fn least_of_four(from: u8, to: u8) -> u8
 {
     // Most that come here are so, and two of the lengths need not be worked out then.
     if forward(from, to) {
-        return least(to - from, 3);
+        return (to - from).min(3);
     }
-    let n = least(sideways(from, to), 3);
-    let m = least(onward(from, to), from_start(from, to));
-    least(n, m)
+    sideways(from, to)
+        .min(onward(from, to))
+        .min(from_start(from, to))
+        .min(3)
 }

@@ -15,23 +15,15 @@ use condition::Condition;
 pub fn next(p: u8) -> u8
     ensures { result ≡ next p }
 {
-    if p < Condition::LAST_PLACE {
-        return p + 1;
-    }
-    0
+    if p < Condition::LAST_PLACE { p + 1 } else { 0 }
 }
 
-// The fewest move bytes from a place to another; 0 where one of them is no place.
+// The fewest move bytes from a place to another. It cannot fail: the answer is 0 where one of them is no place, as from a place to
+// itself.
 pub fn number(from: u8, to: u8) -> u8
     ensures { Fewest from to result }
 {
-    if from == to {
-        return 0;
-    }
-    if Condition::LAST_PLACE < from {
-        return 0;
-    }
-    if Condition::LAST_PLACE < to {
+    if from == to || Condition::LAST_PLACE < from || Condition::LAST_PLACE < to {
         return 0;
     }
     // Most ways of a plan end above or here; what is left takes longer to work out.
@@ -47,9 +39,8 @@ pub fn put_way(out: &mut [u8], from: u8, to: u8) -> u8
     ensures { PutsWay from to out.old out.new result }
 {
     let n = number(from, to);
-    if n == 0 {
-        return 0;
+    if n != 0 {
+        bytes::put_kind(out, n, from, to);
     }
-    bytes::put_kind(out, n, from, to);
     n
 }

@@ -6,6 +6,6 @@ pub returns-then-p-lt-LAST_PLACE : goal.returns-then-p-lt-LAST_PLACE
 unfolding next
 returns-then-p-lt-LAST_PLACE c = rw (lt-ltb _ _ c.if-p-lt-LAST_PLACE.true)
 
-pub returns : goal.returns
+pub returns-else-p-lt-LAST_PLACE : goal.returns-else-p-lt-LAST_PLACE
 unfolding next
-returns c = rw (le-ltb _ _ c.if-p-lt-LAST_PLACE.false)
+returns-else-p-lt-LAST_PLACE c = rw (le-ltb _ _ c.if-p-lt-LAST_PLACE.false)

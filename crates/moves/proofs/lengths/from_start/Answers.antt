@@ -8,7 +8,7 @@ returns-then-line c =
     let a = c.args in
     omega (arith, start-length a.from a.to (search rules) (search rules))
 
-pub returns : goal.returns
-returns c =
+pub returns-else-line : goal.returns-else-line
+returns-else-line c =
     let a = c.args in
     omega (arith, start-length a.from a.to (search rules) (search rules))

@@ -8,7 +8,7 @@ returns-then-line c =
     let a = c.args in
     omega (arith, sideways-length a.from a.to)
 
-pub returns : goal.returns
-returns c =
+pub returns-else-line : goal.returns-else-line
+returns-else-line c =
     let a = c.args in
     omega (arith, sideways-across a.from a.to (search rules) (search rules) (λ e. omega arith))
