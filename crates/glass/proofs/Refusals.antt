@@ -6,7 +6,7 @@ use lib.Dec.{leb}
 use Rattle.condition.specs.declared.Condition.{Condition}
 use Rattle.condition.specs.Condition.{well_formed}
 use Rattle.laws.proofs.Tests.{by-test}
-use Rattle.glass.specs.declared.Answer.{Answer}
+use Rattle.glass.specs.Answers.{Answer}
 use Rattle.glass.specs.Answers.{lookup_of, view_answer, dot_answer, underline_answer, lit_answer}
 
 module _ (c : Condition) (w : well_formed c ≡ false) where

@@ -8,4 +8,4 @@ returns-in_default c = rw (← c.lookup.ensures, c.in_default.is)
 pub returns : goal.returns
 unfolding lit_answer
 returns c =
-    rw (← c.lookup.ensures, c.in-At.is, c.lit.ensures, c.drawn.ensures)
+    rw (← c.lookup.ensures, c.in-Some.is, c.lit.ensures, c.character_at.ensures, c.list.ensures.0)

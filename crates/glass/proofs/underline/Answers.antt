@@ -8,4 +8,4 @@ returns-in_default c = rw (← c.lookup.ensures, c.in_default.is)
 pub returns : goal.returns
 unfolding underline_answer
 returns c =
-    rw (← c.lookup.ensures, c.in-At.is, c.underline.ensures, c.drawn.ensures)
+    rw (← c.lookup.ensures, c.in-Some.is, c.underline.ensures, c.character_at.ensures, c.list.ensures.0)

@@ -5,16 +5,18 @@ use borrow.Author.Tests.{le-leb, lt-leb}
 use Rattle.glass.specs.Shows.{shows_of}
 use Rattle.glass.specs.Answers.{view_answer}
 use Rattle.glass.proofs.view.Goals as goal
+use Rattle.glass.proofs.view.Goals.{then-not-well_formed-via-then-not-well_formed}
+use Rattle.glass.proofs.view.Goals.{then-not-well_formed-via-else-not-well_formed+then-i-ge-CELLS}
 
 pub returns-then-not-well_formed : goal.returns-then-not-well_formed
 unfolding view_answer
-returns-then-not-well_formed c = rw (sym c.well_formed-2.ensures ∙ c.if-not-well_formed.true)
-
-pub returns-then-i-ge-CELLS : goal.returns-then-i-ge-CELLS
-unfolding view_answer
-returns-then-i-ge-CELLS c =
-    let past : 39 < c.args.position = omega (arith, c.if-i-ge-CELLS.true) in
-    rw (sym c.well_formed-2.ensures ∙ c.if-not-well_formed.false, lt-leb _ _ past)
+returns-then-not-well_formed c =
+    elim c.then-not-well_formed.branch [
+      | then-not-well_formed-via-then-not-well_formed w ↦ rw (sym c.well_formed-2.ensures ∙ w.if-not-well_formed.true)
+      | then-not-well_formed-via-else-not-well_formed+then-i-ge-CELLS w ↦
+          let past : 39 < c.args.position = omega (arith, w.if-i-ge-CELLS.true) in
+          rw (sym c.well_formed-2.ensures ∙ w.if-not-well_formed.false, lt-leb _ _ past)
+    ]
 
 pub returns : goal.returns
 unfolding view_answer shows_of
