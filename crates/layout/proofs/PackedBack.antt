@@ -1,13 +1,15 @@
 -- A condition packed into bytes, and unpacked again.
-use Prim.Native.Nat.{ℕ, ◌≤◌, ◌<◌}
+use Prim.Native.Nat.{ℕ, ◌+◌, ◌≤◌, ◌<◌}
 use mathlib.Core.Path.{◌≡◌, refl, ap, sym, ◌∙◌}
-use mathlib.Core.Bool.{false}
+use mathlib.Core.Bool.{Bool, true, false}
+use mir.Val.{bool_byte}
+use Rattle.laws.specs.Flags.{flag}
 use mathlib.Core.List.{List, [], ◌++◌, append_assoc, append-nil}
 use native.Mathlib.Omega.{arith}
 use lib.Dec.{eqb}
-use lib.ListN.{length, get_or, take, drop, replicate, length-append}
+use lib.ListN.{length, get_or, take, drop, length-append}
+use Rattle.std.proofs.lemmas.List.{get_or-take}
 use borrow.Author.Tests.{ne_eqb, lt-ltb, le-ltb}
-use Rattle.row.specs.Row.{laid}
 use Rattle.index.specs.Index.{index_of}
 use Rattle.condition.specs.declared.Condition.{Condition}
 use Rattle.condition.specs.declared.Pending.{Pending}
@@ -18,13 +20,9 @@ use Rattle.layout.specs.Layout.{kind_of, code_of, head_of, packed_of, pending_of
 use Rattle.laws.proofs.Flags.{flag-back}
 use Rattle.condition.proofs.Good.{Sized, Indexed, reindexed-same}
 use Rattle.laws.proofs.Lists.{part_length, gets-all}
-use Rattle.layout.proofs.Parts.{copied, cut_parts, in-codes, in-fonts, in-users}
+use Rattle.layout.proofs.Parts.{part-of-first, cut_parts, in-codes, in-fonts, in-users}
 
--- bytes that hold a condition, and bytes that are too few
-pub enough : (s : List ℕ) → 200 ≤ length s → unpacked_of s ≡ condition_in s
-unfolding unpacked_of
-enough s h = rw (le-ltb _ _ h)
-
+-- bytes that are too few
 pub too_few : (s : List ℕ) → length s < 200 → unpacked_of s ≡ power_up 0
 unfolding unpacked_of
 too_few s h = rw (lt-ltb _ _ h)
@@ -49,35 +47,26 @@ pub indexed-in : (s : List ℕ) → Indexed (condition_in s)
 unfolding condition_in
 indexed-in s = refl
 
--- the parts of the first 200 bytes, copied out, and the fields
-pub unpacking : (s x y w h z : List ℕ) (p : Pending) → 200 ≤ length s → x ≡ laid (take 40 (drop 24 s)) (replicate 40 0)
-    → y ≡ laid (take 40 (drop 64 s)) (replicate 40 0) → w ≡ laid (take 96 (drop 104 s)) (replicate 96 0)
-    → h ≡ laid (take 4 (drop 16 s)) (replicate 4 0) → p ≡ pending_of (get_or s 13 0) (get_or s 14 0) (get_or s 15 0)
-    → z ≡ index_of 256 w (get_or s 20 0)
-    → ◌≡◌ {A = Condition}
-    (record {
-      codes = x;
-      fonts = y;
-      cursor = get_or s 3 0;
-      mode = get_or s 4 0;
-      scrolling = eqb (get_or s 5 0) 1;
-      shown = eqb (get_or s 6 0) 1;
-      font = get_or s 7 0;
-      link = get_or s 8 0;
-      euro = eqb (get_or s 9 0) 1;
-      luminance = get_or s 10 0;
-      speed = get_or s 11 0;
-      flickerless = eqb (get_or s 12 0) 1;
-      users = record { bytes = w; count = get_or s 20 0 };
-      index = z;
-      pending = p;
-      held = h;
-    })
-    (condition_in s)
+-- nothing behind the first 200 bytes is looked at
+in-first : (s : List ℕ) → condition_in (take 200 s) ≡ condition_in s
 unfolding condition_in
-unpacking s x y w h z p l ex ey ew eh ep ez =
-    rw (ez, ex, ey, ew, eh, ep, copied s 24 40 (omega arith), copied s 64 40 (omega arith))
-    (rw (copied s 104 96 (omega arith), copied s 16 4 (omega arith)))
+in-first s =
+    let byte : (k : ℕ) → k < 200 → get_or (take 200 s) k 0 ≡ get_or s k 0 = λ k h. get_or-take 200 s k 0 h in
+    let part : (at n : ℕ) → at + n ≤ 200 → take n (drop at (take 200 s)) ≡ take n (drop at s) = part-of-first 200 s in
+    rw (byte 3 (omega arith), byte 4 (omega arith), byte 5 (omega arith), byte 6 (omega arith), byte 7 (omega arith))
+    (rw (byte 8 (omega arith), byte 9 (omega arith), byte 10 (omega arith), byte 11 (omega arith), byte 12 (omega arith))
+    (rw (byte 13 (omega arith), byte 14 (omega arith), byte 15 (omega arith), byte 20 (omega arith))
+    (rw (part 24 40 (omega arith), part 64 40 (omega arith), part 104 96 (omega arith), part 16 4 (omega arith)))))
+
+-- bytes that hold a condition, of which t is the first 200
+pub enough : (s t : List ℕ) → 200 ≤ length s → t ≡ take 200 s → unpacked_of s ≡ condition_in t
+unfolding unpacked_of
+enough s t h e = rw (le-ltb _ _ h, e) (sym (in-first s))
+
+-- a flag as the byte that a cast makes of it
+pub cast-flag : (t : Bool) → bool_byte t ≡ flag t
+cast-flag true = refl
+cast-flag false = refl
 
 -- a kind that is none of 0 to 5
 pub kind-above-5 : (k a n : ℕ) → 5 < k → UserData a n ≡ pending_of k a n

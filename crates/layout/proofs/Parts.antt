@@ -1,17 +1,19 @@
 -- Parts of a row of bytes: laid one after the other, copied out again, and where the first 200 bytes are cut.
-use Prim.Native.Nat.{ℕ, ◌+◌, ◌≤◌}
+use Prim.Native.Nat.{ℕ, ◌+◌, ◌-◌, ◌≤◌}
 use mathlib.Core.Path.{◌≡◌, refl, ap, sym, ◌∙◌}
-use mathlib.Core.List.{List, [], ◌++◌, append_assoc, append-nil}
+use mathlib.Core.List.{List, ◌++◌, append_assoc, append-nil}
 use native.Mathlib.Omega.{arith}
-use lib.ListN.{length, take, drop, replicate, length-append, length-drop, length-replicate, drop_of_length-le}
-use lib.Seq.{take_at, drop_at, drop-drop, take-add, length-take-le}
-use Rattle.laws.proofs.Lists.{part_length, cut}
-use Rattle.row.specs.Row.{laid}
-use Rattle.row.proofs.Laws.{filled}
+use lib.ListN.{length, take, drop, length-append, length-drop, drop_of_length-le}
+use lib.Seq.{take_at, drop_at, drop-drop, take-add}
+use Rattle.laws.proofs.Lists.{cut}
+use Rattle.std.proofs.lemmas.List.{drop-take, take-take}
+use borrow.Rule.Slice.PartMut.{put_mid}
 
--- a part, copied to a place of its own
-pub copied : (s : List ℕ) (at n : ℕ) → at + n ≤ length s → laid (take n (drop at s)) (replicate n 0) ≡ take n (drop at s)
-copied s at n h = filled (take n (drop at s)) (replicate n 0) n (part_length at n s h) (length-replicate n 0)
+-- a part of the first m bytes
+pub part-of-first : (m : ℕ) (s : List ℕ) (at n : ℕ) → at + n ≤ m → take n (drop at (take m s)) ≡ take n (drop at s)
+part-of-first m s at n h =
+    let e : m ≡ at + (m - at) = omega arith in
+    rw (e, drop-take at (m - at) s) (take-take n (m - at) (drop at s) (omega arith))
 
 -- Cut into parts -------------------------------------------------------------------------------------------------------------
 
@@ -47,32 +49,23 @@ module _ (p q w z : List ℕ) (hp : length p ≡ 40) (hq : length q ≡ 40) (hw 
 -- Laid one after the other -----------------------------------------------------------------------------------------------------
 
 -- the next part q, laid behind p
-behind : (l p t q x : List ℕ) (a n : ℕ) → l ≡ p ++ t → length p ≡ a → length q ≡ n → n ≤ length t → x ≡ laid q (take n (drop a l))
-    → take a l ++ (x ++ drop n (drop a l)) ≡ (p ++ q) ++ drop n t
-behind l p t q x a n e hp hq h ex =
-    let d : drop a l ≡ t = rw e (drop_at p t a hp) in
-    let f : x ≡ q = ex ∙ filled q (take n (drop a l)) n hq (rw d (length-take-le n t h)) in
-    rw (f, d, e, take_at p t a hp) (sym (append_assoc p q (drop n t)))
+behind : (l p t q : List ℕ) (a n : ℕ) → l ≡ p ++ t → length p ≡ a → put_mid a n l q ≡ (p ++ q) ++ drop n t
+behind l p t q a n e hp = rw (e, take_at p t a hp, drop_at p t a hp) (sym (append_assoc p q (drop n t)))
 
 -- four parts that fill 200 bytes
-pub four-parts : (s p q u w x y z v : List ℕ) → length s ≡ 200 → length p ≡ 24 → length q ≡ 40 → length u ≡ 40 → length w ≡ 96
-    → (s₁ s₂ s₃ s₄ : List ℕ) → x ≡ laid p (take 24 s) → s₁ ≡ x ++ drop 24 s
-    → y ≡ laid q (take 40 (drop 24 s₁)) → s₂ ≡ take 24 s₁ ++ (y ++ drop 40 (drop 24 s₁))
-    → z ≡ laid u (take 40 (drop 64 s₂)) → s₃ ≡ take 64 s₂ ++ (z ++ drop 40 (drop 64 s₂))
-    → v ≡ laid w (take 96 (drop 104 s₃)) → s₄ ≡ take 104 s₃ ++ (v ++ drop 96 (drop 104 s₃))
-    → s₄ ≡ p ++ (q ++ (u ++ w))
-four-parts s p q u w x y z v hs hp hq hu hw s₁ s₂ s₃ s₄ ex e₁ ey e₂ ez e₃ ev e₄ =
+pub four-parts : (s p q u w : List ℕ) → length s ≡ 200 → length p ≡ 24 → length q ≡ 40 → length u ≡ 40
+    → put_mid 104 96 (put_mid 64 40 (put_mid 24 40 (p ++ drop 24 s) q) u) w ≡ p ++ (q ++ (u ++ w))
+four-parts s p q u w hs hp hq hu =
     let t₁ : List ℕ = drop 24 s in
     let t₂ : List ℕ = drop 40 t₁ in
     let t₃ : List ℕ = drop 40 t₂ in
-    let l₁ : length t₁ ≡ 176 = simp length-drop (omega arith) in
-    let l₂ : length t₂ ≡ 136 = simp length-drop (omega arith) in
-    let l₃ : length t₃ ≡ 96 = simp length-drop (omega arith) in
+    let s₁ : List ℕ = p ++ t₁ in
+    let s₂ : List ℕ = put_mid 24 40 s₁ q in
+    let s₃ : List ℕ = put_mid 64 40 s₂ u in
+    let l₃ : length t₃ ≤ 96 = simp length-drop (omega arith) in
     let lq : length (p ++ q) ≡ 64 = length-append p q ∙ (omega arith) in
     let lu : length ((p ++ q) ++ u) ≡ 104 = length-append (p ++ q) u ∙ (omega arith) in
-    let f₁ : s₁ ≡ p ++ t₁ = e₁ ∙ behind s [] s p x 0 24 refl refl hp (omega arith) ex in
-    let f₂ : s₂ ≡ (p ++ q) ++ t₂ = e₂ ∙ behind s₁ p t₁ q y 24 40 f₁ hp hq (omega arith) ey in
-    let f₃ : s₃ ≡ ((p ++ q) ++ u) ++ t₃ = e₃ ∙ behind s₂ (p ++ q) t₂ u z 64 40 f₂ lq hu (omega arith) ez in
-    let f₄ : s₄ ≡ (((p ++ q) ++ u) ++ w) ++ drop 96 t₃ = e₄ ∙ behind s₃ ((p ++ q) ++ u) t₃ w v 104 96 f₃ lu hw (omega arith) ev in
-    let none : length t₃ ≤ 96 = omega arith in
-    f₄ ∙ rw (drop_of_length-le t₃ none) (append-nil (((p ++ q) ++ u) ++ w) ∙ simp append_assoc)
+    let f₂ : s₂ ≡ (p ++ q) ++ t₂ = behind s₁ p t₁ q 24 40 refl hp in
+    let f₃ : s₃ ≡ ((p ++ q) ++ u) ++ t₃ = behind s₂ (p ++ q) t₂ u 64 40 f₂ lq in
+    behind s₃ ((p ++ q) ++ u) t₃ w 104 96 f₃ lu
+    ∙ rw (drop_of_length-le t₃ l₃) (append-nil (((p ++ q) ++ u) ++ w) ∙ simp append_assoc)

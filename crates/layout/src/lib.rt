@@ -7,7 +7,7 @@ ghost use Rattle.condition.specs.Condition.{held_of, numbers_good, scroll_good, 
 ghost use Rattle.layout.specs.Layout.{kind_of, code_of, head_of, packed_of, pending_of, condition_in, unpacked_of};
 
 use condition::{Condition, Pending};
-use users::Users;
+use users::{UserList, Users};
 
 // The places of the bytes: a field at each of 3 to 20, and three parts from 24 to 199.
 pub const CURSOR: usize = 3;
@@ -58,12 +58,6 @@ pub const SECOND: u8 = 0x4b;
 
 pub const THIRD: u8 = 0x01;
 
-fn bit(on: bool) -> u8
-    ensures { result ≡ flag on }
-{
-    if on { 1 } else { 0 }
-}
-
 // A half-received command in its three bytes.
 #[derive(Clone, Copy)]
 pub struct Half {
@@ -103,39 +97,33 @@ pub fn pending_in(kind: u8, code: u8, holds: u8) -> Pending
     }
 }
 
+// What stands before the codes.
 fn head(c: Condition) -> [u8; CODES]
     ensures { result ≡ head_of c }
 {
-    let p = c.pending;
-    let half = half_of(p);
-    let held = c.held;
-    let users = c.users;
-    let scrolling = bit(c.scrolling);
-    let shown = bit(c.shown);
-    let euro = bit(c.euro);
-    let flickerless = bit(c.flickerless);
+    let half = half_of(c.pending);
     [
         FIRST,
         SECOND,
         THIRD,
         c.cursor,
         c.mode,
-        scrolling,
-        shown,
+        c.scrolling as u8,
+        c.shown as u8,
         c.font,
         c.link,
-        euro,
+        c.euro as u8,
         c.luminance,
         c.speed,
-        flickerless,
+        c.flickerless as u8,
         half.kind,
         half.code,
         half.holds,
-        held[0],
-        held[1],
-        held[2],
-        held[3],
-        users.count,
+        c.held[0],
+        c.held[1],
+        c.held[2],
+        c.held[3],
+        c.users.count,
         0,
         0,
         0,
@@ -143,59 +131,45 @@ fn head(c: Condition) -> [u8; CODES]
 }
 
 // The four parts of the first 200 bytes, one after the other.
-fn lay(
-    s: &mut [u8],
-    first: &[u8; CODES],
-    codes: &[u8; Condition::CELLS],
-    fonts: &[u8; Condition::CELLS],
-    chars: &[u8; Users::BYTES],
-)
-    requires { length s.old ≡ 200 }
-    ensures { s.new ≡ first.now ++ (codes.now ++ (fonts.now ++ chars.now)) }
+fn lay(s: &mut [u8; PACKED], first: &[u8; CODES], c: &Condition)
+    ensures { s.new ≡ first.now ++ (c.now.codes ++ (c.now.fonts ++ c.now.users.bytes)) }
 {
-    row::copy(&mut s[0..CODES], first);
-    row::copy(&mut s[CODES..FONTS], codes);
-    row::copy(&mut s[FONTS..USERS], fonts);
-    row::copy(&mut s[USERS..PACKED], chars);
+    s[..CODES].copy_from_slice(first);
+    s[CODES..FONTS].copy_from_slice(&c.codes);
+    s[FONTS..USERS].copy_from_slice(&c.fonts);
+    s[USERS..].copy_from_slice(&c.users.bytes);
 }
 
 // A condition as the block's first 200 bytes.
 pub fn packed(c: Condition) -> [u8; PACKED]
     ensures { result ≡ packed_of c }
 {
-    let first = head(c);
-    let codes = c.codes;
-    let fonts = c.fonts;
-    let users = c.users;
-    let chars = users.bytes;
-    let mut s = [0u8; PACKED];
-    lay(&mut s, &first, &codes, &fonts, &chars);
+    let mut s = [0; PACKED];
+    lay(&mut s, &head(c), &c);
     s
 }
 
-// The condition that stands in the first 200 bytes.
-fn unpack(s: &[u8]) -> Condition
-    requires { 200 ≤ length s.now }
+// The condition that stands in such bytes.
+fn unpack(s: &[u8; PACKED]) -> Condition
     ensures { result ≡ condition_in s.now }
 {
-    let mut codes = [0u8; Condition::CELLS];
-    let mut fonts = [0u8; Condition::CELLS];
-    let mut bytes = [0u8; Users::BYTES];
-    let mut held = [0u8; Condition::HELD];
-    row::copy(&mut codes, &s[CODES..FONTS]);
-    row::copy(&mut fonts, &s[FONTS..USERS]);
-    row::copy(&mut bytes, &s[USERS..PACKED]);
-    row::copy(&mut held, &s[HELD..COUNT]);
-    let pending = pending_in(s[KIND], s[CODE], s[HOLDS]);
+    let mut codes = [0; Condition::CELLS];
+    codes.copy_from_slice(&s[CODES..FONTS]);
+    let mut fonts = [0; Condition::CELLS];
+    fonts.copy_from_slice(&s[FONTS..USERS]);
+    let mut bytes = [0; Users::BYTES];
+    bytes.copy_from_slice(&s[USERS..]);
+    let mut held = [0; Condition::HELD];
+    held.copy_from_slice(&s[HELD..COUNT]);
     let users = Users {
-        bytes: bytes,
+        bytes,
         count: s[COUNT],
     };
-    let mut index = [0u8; index::ENTRIES];
-    index::build(&bytes, s[COUNT], &mut index);
+    let mut index = [0; index::ENTRIES];
+    index::build(&users.list(), &mut index);
     Condition {
-        codes: codes,
-        fonts: fonts,
+        codes,
+        fonts,
         cursor: s[CURSOR],
         mode: s[MODE],
         scrolling: s[SCROLLING] == 1,
@@ -206,10 +180,10 @@ fn unpack(s: &[u8]) -> Condition
         luminance: s[LUMINANCE],
         speed: s[SPEED],
         flickerless: s[FLICKERLESS] == 1,
-        users: users,
-        index: index,
-        pending: pending,
-        held: held,
+        users,
+        index,
+        pending: pending_in(s[KIND], s[CODE], s[HOLDS]),
+        held,
     }
 }
 
@@ -217,50 +191,44 @@ fn unpack(s: &[u8]) -> Condition
 pub fn unpacked(s: &[u8]) -> Condition
     ensures { result ≡ unpacked_of s.now }
 {
-    if s.len() < PACKED {
-        let none = Condition::power_up(0);
-        return none.condition;
+    match s.first_chunk() {
+        Some(first) => unpack(first),
+        None => Condition::powered(0),
     }
-    unpack(s)
 }
 
 // The numbers that stand in the bytes, and the rule for scroll-on.
-fn numbers_in(s: &[u8]) -> bool
-    requires { 200 ≤ length s.now }
+fn numbers_in(s: &[u8; PACKED]) -> bool
     ensures { result ≡ (numbers_good (condition_in s.now) && scroll_good (condition_in s.now)) }
 {
-    ((s[CURSOR] as usize) < Condition::CELLS)
+    (usize::from(s[CURSOR]) < Condition::CELLS)
         & (1 <= s[MODE])
         & (s[MODE] <= Condition::LAST_MODE)
         & (s[FONT] <= Condition::LAST_FONT)
         & (s[LINK] <= Condition::LAST_FONT)
         & (s[LUMINANCE] <= Condition::FULL_LUMINANCE)
         & (s[COUNT] <= Condition::MOST_USERS)
-        & (!(s[SCROLLING] == 1)
+        & ((s[SCROLLING] != 1)
             | ((s[MODE] == 3) & (s[CURSOR] % Condition::COLUMNS == Condition::LAST_COLUMN)))
 }
 
-fn formed_in(s: &[u8]) -> bool
-    requires { 200 ≤ length s.now }
+fn formed_in(s: &[u8; PACKED]) -> bool
     ensures { result ≡ well_formed (condition_in s.now) }
 {
-    let p = pending_in(s[KIND], s[CODE], s[HOLDS]);
-    numbers_in(s)
-        & condition::rows_good(
-            &s[FONTS..USERS],
-            s[COUNT],
-            &s[USERS..PACKED],
-            p,
-            &s[HELD..COUNT],
-        )
+    let users = UserList {
+        bytes: &s[USERS..],
+        count: s[COUNT],
+    };
+    let pending = pending_in(s[KIND], s[CODE], s[HOLDS]);
+    numbers_in(s) & condition::rows_good(&s[FONTS..USERS], &users, pending, &s[HELD..COUNT])
 }
 
 // Whether the condition that stands in such bytes is well formed, told in the bytes. Power-up is, so fewer than 200 are too.
 pub fn is_formed(s: &[u8]) -> bool
     ensures { result ≡ well_formed (unpacked_of s.now) }
 {
-    if s.len() < PACKED {
-        return true;
+    match s.first_chunk() {
+        Some(first) => formed_in(first),
+        None => true,
     }
-    formed_in(s)
 }

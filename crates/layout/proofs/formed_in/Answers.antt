@@ -10,5 +10,5 @@ unfolding condition_in
 returns c =
     let s = c.args.s.now in
     let z = sized-in s (search rules) in
-    rw (c.rows_good.ensures, c.numbers_in.ensures, c.pending_in-p.ensures)
+    rw (c.rows_good.ensures, c.numbers_in.ensures, c.pending_in-pending.ensures)
     (rows-law (condition_in s) z.fonts-40 z.users-96 z.held-4 ∙ indexed-formed (condition_in s) (indexed-in s))

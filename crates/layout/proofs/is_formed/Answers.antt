@@ -5,8 +5,10 @@ use Rattle.condition.proofs.Kept.{power-up-good}
 use Rattle.layout.proofs.PackedBack.{enough, too_few}
 use Rattle.layout.proofs.is_formed.Goals as goal
 
-pub returns-then-s-lt-PACKED : goal.returns-then-s-lt-PACKED
-returns-then-s-lt-PACKED c = sym (ap well_formed (too_few _ c.if-s-lt-PACKED.true) ∙ power-up-good 0 (omega arith))
+pub returns-in-None : goal.returns-in-None
+returns-in-None c = sym (ap well_formed (too_few _ c.in-None.ensures.cases) ∙ power-up-good 0 (omega arith))
 
-pub returns : goal.returns
-returns c = c.formed_in.ensures ∙ sym (ap well_formed (enough _ c.if-s-lt-PACKED.false))
+pub returns-in-Some : goal.returns-in-Some
+returns-in-Some c =
+    let first = c.in-Some.ensures.cases in
+    c.formed_in.ensures ∙ sym (ap well_formed (enough c.args.s.now c.in-Some.first.now first.enough first.same))

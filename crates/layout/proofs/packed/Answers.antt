@@ -3,5 +3,4 @@ use Rattle.layout.proofs.packed.Goals as goal
 
 pub returns : goal.returns
 unfolding packed_of
-returns c =
-    rw (c.lay.ensures, c.head-first.ensures)
+returns c = rw (c.lay.ensures, c.head.ensures)

@@ -1,8 +1,16 @@
-use Rattle.layout.proofs.PackedBack.{unpacking}
+use Rattle.layout.specs.Layout.{condition_in}
 use Rattle.layout.proofs.unpack.Goals as goal
 
 pub returns : goal.returns
+unfolding condition_in
 returns c =
-    unpacking c.args.s.now c.copy.new.to c.copy-2.new.to c.copy-3.new.to c.copy-4.new.to
-    c.build.new.entries c.pending_in-pending.result c.requires
-    c.copy.ensures c.copy-2.ensures c.copy-3.ensures c.copy-4.ensures c.pending_in-pending.ensures c.build.ensures
+    rw (
+      c.build.ensures,
+      c.list.ensures.0,
+      c.list.ensures.1,
+      c.copy_from_slice.ensures.after,
+      c.copy_from_slice-2.ensures.after,
+      c.copy_from_slice-3.ensures.after,
+      c.copy_from_slice-4.ensures.after,
+      c.pending_in.ensures,
+    )
