@@ -2,10 +2,11 @@
 use mathlib.Core.Path.{◌≡◌, refl, sym, ap, ◌∙◌, subst}
 use mathlib.Core.Bool.{Bool, true, false, cond, not, ◌&&◌, or-true}
 use mathlib.Core.List.{List, [], ◌∷◌}
-use Prim.Native.Nat.{ℕ, ◌≤◌, ◌<◌}
+use Prim.Native.Nat.{ℕ, ◌≤◌, min}
 use native.Mathlib.Omega.{arith}
+use lib.Dec.{ltb}
 use lib.ListN.{length, length-replicate}
-use borrow.Author.Tests.{eqb-true, ltb-true, ltb-false, lt-ltb, le-ltb, not-true}
+use borrow.Author.Tests.{eqb-true, ltb-true, ltb-false, not-true}
 use Rattle.laws.proofs.Tests.{by_cases, both}
 use Rattle.users.specs.Users.{is_user}
 use Rattle.condition.specs.declared.Condition.{Condition}
@@ -58,14 +59,13 @@ module _ (from : Condition → List ℕ) (c : Condition) where
     unfolding clear_wins
     counts-plain u = en ∙ sym (either-length ∙ rw u)
 
-    module _ (ek : k ≡ length (plan_by from true c)) (u : is_user c.users 0x0e ≡ false) where
-      pub counts-cleared : k < n → k ≡ length (either_by from c)
-      unfolding clear_wins
-      counts-cleared l = ek ∙ sym (either-length ∙ rw (u, ← en, ← ek, lt-ltb k n l))
-
-      pub counts-shorter : n ≤ k → n ≡ length (either_by from c)
-      unfolding clear_wins
-      counts-shorter l = en ∙ sym (either-length ∙ rw (u, ← en, ← ek, le-ltb k n l))
+    -- the lesser of both
+    pub counts-lesser : k ≡ length (plan_by from true c) → is_user c.users 0x0e ≡ false → min n k ≡ length (either_by from c)
+    unfolding clear_wins
+    counts-lesser ek u =
+        by_cases (ltb k n)
+        (λ e. omega (arith, ltb-true k n e, ek ∙ sym (either-length ∙ rw (u, ← en, ← ek, e))))
+        (λ e. omega (arith, ltb-false k n e, en ∙ sym (either-length ∙ rw (u, ← en, ← ek, e))))
 
   -- the plan that is put, where `clear` is whether the clear wins
   pub either_is : (clear : Bool) → clear ≡ clear_wins from c → plan_by from clear c ≡ either_by from c

@@ -7,8 +7,13 @@ use native.Mathlib.Omega.{arith}
 use lib.Dec.{eqb, ltb, leb}
 use lib.ListN.{length, get_or, replicate, length-replicate}
 use lib.Seq.{take-append_seam}
+use Rattle.std.specs.Prelude.{Ok, Err}
 use borrow.Author.Tests.{eqb-true, ne_eqb, ltb-false, le-ltb, leb-true, not-false}
 use Rattle.laws.proofs.Tests.{by_cases, clash, both, neither, passed}
+use Rattle.refusals.specs.declared.Refusal.{Refusal}
+use Rattle.refusals.specs.Refusals.{number_of}
+use Rattle.refusals.specs.declared.Refusal.TheVariants.{WrongLength, Damaged, OutOfRange, TooLong, TallyFull, HalfReceived}
+use Rattle.refusals.specs.declared.Refusal.TheVariants.{WrongMode, UserOnMove, NoCharacter, NoRoom, Lost}
 use Rattle.users.specs.declared.Users.{Users}
 use Rattle.users.specs.Users.{is_user}
 use Rattle.condition.specs.declared.Condition.{Condition}
@@ -23,13 +28,12 @@ use Rattle.row.proofs.Ranges.{up-to-at, up-to-replicate}
 use Rattle.moves.specs.Moves.{any, moves}
 use Rattle.moves.proofs.Moving.{each-move}
 use Rattle.moves.proofs.Interpreter.{Ready, ready}
-use Rattle.planner.specs.declared.Planned.{Planned}
 use Rattle.planner.specs.Plan.{at_start, pictured, Delivers}
 use Rattle.planner.specs.Fonts.{FontsDelivers}
 use Rattle.planner.specs.Clear.{either_plan, either_fonts_plan}
 use Rattle.planner.specs.Given.{Given}
 use Rattle.planner.specs.Answer.{on_move, on_switch, lacks, some_lacks, refusal_by, plan_refusal, fonts_refusal, bytes_by, Promise}
-use Rattle.planner.specs.Answer.{Counts}
+use Rattle.planner.specs.Answer.{Counts, Planned, planned}
 use Rattle.planner.proofs.Serving.{Plannable, Switchable}
 use Rattle.planner.proofs.Demand.{either-delivers, either-fonts-deliver}
 
@@ -245,18 +249,30 @@ fonts-given c wanted fonts asked t =
 
 -- Answers -------------------------------------------------------------------------------------------------------------------------
 
-abbrev pub planned : ℕ → ℕ → Planned
-planned refusal n = record { refusal = refusal; length = n }
+-- no refusal has the number of none
+pub numbered : (r : Refusal) → number_of r ≡ 0 → ⊥
+numbered WrongLength = λ h. omega arith
+numbered Damaged = λ h. omega arith
+numbered OutOfRange = λ h. omega arith
+numbered TooLong = λ h. omega arith
+numbered TallyFull = λ h. omega arith
+numbered HalfReceived = λ h. omega arith
+numbered WrongMode = λ h. omega arith
+numbered UserOnMove = λ h. omega arith
+numbered NoCharacter = λ h. omega arith
+numbered NoRoom = λ h. omega arith
+numbered Lost = λ h. omega arith
 
 module _ (number : ℕ) (bytes : List ℕ) (For : List ℕ → Type 0) (out : List ℕ) where
-  pub refused : (n : ℕ) → n ≡ number → (n ≡ 0 → ⊥) → Promise number bytes For out out (planned n 0)
+  pub refused : (r : Refusal) → number_of r ≡ number → Promise number bytes For out out (planned (Err r))
   unfolding bytes_by
-  refused n e z =
+  refused r e =
+      let z = numbered r in
       let t = ne_eqb number 0 (λ (h : number ≡ 0). z (e ∙ h)) in
       record { answer = rw (t, e); output = rw t; delivers = λ h. absurd (z h) }
 
   pub taken-on : (after : List ℕ) (n : ℕ) → number ≡ 0 → For bytes → (n ≡ length bytes) × (after ≡ at_start bytes out)
-      → Promise number bytes For out after (planned 0 n)
+      → Promise number bytes For out after (planned (Ok n))
   unfolding bytes_by
   taken-on after n e d p =
       record { answer = rw (e, p.0); output = rw e p.1; delivers = λ h. rw (p.0, p.1, take-append_seam bytes _) d }
@@ -281,3 +297,15 @@ pub counted : (c : Condition) (wanted : List ℕ) (asked : ℕ) (r : Planned) �
     → plan_refusal c wanted asked 44 ≡ 0 → r.length ≡ length (either_plan c wanted asked)
 unfolding bytes_by
 counted c wanted asked r e z = ap (λ (p : Planned). p.length) e ∙ rw z
+
+-- what is counted, and what is not
+pub not-counted : (c : Condition) (wanted : List ℕ) (asked : ℕ) (r : Refusal) → number_of r ≡ plan_refusal c wanted asked 44
+    → Counts c wanted asked (planned (Err r))
+unfolding bytes_by
+not-counted c wanted asked r e =
+    rw (← e, ne_eqb (number_of r) 0 (numbered r))
+
+pub counted-one : (c : Condition) (wanted : List ℕ) (asked n : ℕ) → plan_refusal c wanted asked 44 ≡ 0
+    → n ≡ length (either_plan c wanted asked) → Counts c wanted asked (planned (Ok n))
+unfolding bytes_by
+counted-one c wanted asked n e l = rw (e, l)

@@ -18,7 +18,7 @@ use Rattle.planner.proofs.Canvas.{wrong_in}
 use Rattle.planner.proofs.Counting.{plan_in}
 use Rattle.planner.proofs.Putting.{put_front}
 
-clearing-length : (clear : Bool) → length (clearing clear) ≡ bool_byte clear
+pub clearing-length : (clear : Bool) → length (clearing clear) ≡ bool_byte clear
 clearing-length true = refl
 clearing-length false = refl
 

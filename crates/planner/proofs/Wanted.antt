@@ -1,23 +1,29 @@
--- The wanted codes, one after the other: what the loop over them keeps.
-use mathlib.Core.Path.{◌≡◌}
-use mathlib.Core.Bool.{true, false}
-use mathlib.Core.List.{List}
-use Prim.Native.Nat.{ℕ, ◌+◌, ◌≤◌, ◌<◌}
-use native.Mathlib.Numerals.{add-one}
-use lib.ListN.{length, get_or, drop, drop_of_length-le}
-use lib.Seq.{drop-cons}
+-- The tests of several codes, by the list of the codes; and the list of the user characters.
+use mathlib.Core.Path.{◌≡◌, refl, ap}
+use mathlib.Core.Bool.{◌||◌}
+use mathlib.Core.List.{List, [], ◌∷◌}
+use Prim.Native.Nat.{ℕ}
+use native.Mathlib.Omega.{arith}
+use Rattle.std.specs.List.{list_any}
+use Rattle.std.proofs.lemmas.Grind.{common_steps}
 use Rattle.users.specs.declared.Users.{Users}
-use Rattle.planner.specs.Answer.{lacks, some_lacks}
+use Rattle.users.specs.Users.{is_user, users_in}
+use Rattle.planner.specs.Answer.{on_move, on_switch, lacks, some_lacks}
 
-module _ (u : Users) (ws : List ℕ) (i : ℕ) where
-  pub lacks-turn : i < length ws → lacks u (get_or ws i 0) ≡ false → some_lacks u (drop i ws) ≡ some_lacks u (drop (i + 1) ws)
-  unfolding some_lacks
-  lacks-turn h e = rw (add-one i, drop-cons ws i 0 h, e)
+pub on-move-any : (u : Users) → list_any (is_user u) (0x08 ∷ 0x09 ∷ 0x0a ∷ 0x0c ∷ 0x0d ∷ 0x1b ∷ []) ≡ on_move u
+unfolding on_move
+on-move-any u = grind (arith, common_steps)
 
-  pub lacks-stop : i < length ws → lacks u (get_or ws i 0) ≡ true → some_lacks u (drop i ws) ≡ true
-  unfolding some_lacks
-  lacks-stop h e = rw (drop-cons ws i 0 h, e)
+pub on-switch-any : (u : Users) → list_any (is_user u) (0x18 ∷ 0x19 ∷ 0x1a ∷ []) ≡ on_switch u
+unfolding on_switch
+on-switch-any u = grind (arith, common_steps)
 
-  pub lacks-end : length ws ≤ i → some_lacks u (drop i ws) ≡ false
-  unfolding some_lacks
-  lacks-end h = rw (drop_of_length-le ws h)
+-- a wanted code below 20h has no user character
+pub lacks-any : (u : Users) (ws : List ℕ) → list_any (lacks u) ws ≡ some_lacks u ws
+unfolding some_lacks
+lacks-any u [] = refl
+lacks-any u (w ∷ ws) = ap (λ b. lacks u w || b) (lacks-any u ws)
+
+-- what is told of the list of the user characters is told of these
+pub at-list : (u : Users) (bytes : List ℕ) (count : ℕ) → (bytes ≡ u.bytes) × (count ≡ u.count) → users_in bytes count ≡ u
+at-list u bytes count e = λ i. users_in (e.0 i) (e.1 i)

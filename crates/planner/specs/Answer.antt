@@ -1,12 +1,14 @@
 -- What the planners answer (document 01, Refusal numbers and their order; document 02, W1 and W4).
 use Rattle.std.specs.Prelude.{ℕ, ◌≡◌, List, [], ◌∷◌, Bool, true, false, cond, not, ◌&&◌, ◌||◌, length, take, eqb, ltb, leb}
+use Rattle.std.specs.Prelude.{Result, Ok, Err}
 use Rattle.users.specs.declared.Users.{Users}
 use Rattle.users.specs.Users.{is_user}
 use Rattle.condition.specs.declared.Condition.{Condition}
 use Rattle.row.specs.Row.{all_up_to}
 use Rattle.condition.specs.Condition.{idle, well_formed}
 use Rattle.condition.specs.Steps.{either_start}
-use Rattle.planner.specs.declared.Planned.{Planned}
+use Rattle.refusals.specs.declared.Refusal.{Refusal}
+use Rattle.refusals.specs.Refusals.{number_of}
 use Rattle.planner.specs.Plan.{at_start, Delivers}
 use Rattle.planner.specs.Fonts.{FontsDelivers}
 use Rattle.planner.specs.Clear.{either_plan, either_fonts_plan}
@@ -53,6 +55,16 @@ fonts_refusal c wanted fonts asked room =
     (on_move c.users || on_switch c.users) (ltb room 104) c wanted
 
 -- Answers -------------------------------------------------------------------------------------------------------------------------
+
+-- what a planner, or a recovery, answers: a refusal number, 0 when accepted, and the plan's length, 0 when refused
+pub record Planned : Type 0 where
+  pub refusal : ℕ
+  pub length : ℕ
+
+-- an answer in these words
+abbrev pub planned : Result ℕ Refusal → Planned
+planned (Ok n) = record { refusal = 0; length = n }
+planned (Err e) = record { refusal = number_of e; length = 0 }
 
 -- the bytes of a plan; a refused plan has length 0
 unfoldable pub bytes_by : ℕ → List ℕ → List ℕ

@@ -5,11 +5,10 @@ ghost use Rattle.moves.specs.Ways.{path};
 ghost use Rattle.planner.specs.Plan.{at_start};
 ghost use Rattle.planner.specs.Fonts.{switch};
 ghost use Rattle.planner.specs.Clear.{clearing, fonts_by, either_fonts_plan};
-ghost use Rattle.planner.specs.Given.{Given};
 
 use crate::cells::{codes_at, differs, fonts_at};
-use crate::counts::clear_wins;
-use condition::Condition;
+use crate::counts::CLEAR;
+use crate::task::Task;
 
 // Puts the way from p to q at k; answers the place behind it.
 fn put_way(out: &mut [u8], k: usize, p: u8, q: u8) -> usize
@@ -58,61 +57,47 @@ fn put_clear(out: &mut [u8], clear: bool) -> usize
     ensures { (result ≡ length (clearing clear)) × (out.new ≡ sets out.old 0 (clearing clear)) }
 {
     if clear {
-        out[0] = 0x0e;
-        return 1;
+        out[0] = CLEAR;
     }
-    0
+    usize::from(clear)
 }
 
-// Puts the plan for the wanted codes in the wanted fonts at the start of out, with the clear or without it; answers its length.
-fn put_plan(
-    c: Condition,
-    clear: bool,
-    wanted: &[u8],
-    fonts: &[u8],
-    asked: u8,
-    out: &mut [u8],
-) -> usize
-    requires { Given c wanted.now fonts.now asked
-        × (length (fonts_by clear c wanted.now fonts.now asked) ≤ length out.old) }
-    ensures { (result ≡ length (fonts_by clear c wanted.now fonts.now asked))
-        × (out.new ≡ at_start (fonts_by clear c wanted.now fonts.now asked) out.old) }
-{
-    let codes = codes_at(c, clear);
-    let standing = fonts_at(c, clear);
-    let euro = c.euro;
-    let mut p = c.cursor;
-    let mut selected = c.font;
-    let mut k = put_clear(out, clear);
-    let mut i: u8 = 0;
-    while i <= Condition::LAST_PLACE {
-        let j = i as usize;
-        let code = wanted[j];
-        let font = fonts[j];
-        if differs(codes[j], standing[j], code, font) {
-            let at = put_way(out, k, p, i);
-            k = put_code(out, at, euro, selected, font, code);
-            p = moves::next(i);
-            selected = font;
+impl Task<'_> {
+    // Puts the plan at the start of out, with the clear or without it; answers its length.
+    fn put_by(self, clear: bool, out: &mut [u8]) -> usize
+        requires { length (fonts_by clear self.start.now self.codes.now self.fonts.now self.cursor) ≤ length out.old }
+        ensures { let t = self.entry in
+            (result ≡ length (fonts_by clear t.start.now t.codes.now t.fonts.now t.cursor))
+            × (out.new ≡ at_start (fonts_by clear t.start.now t.codes.now t.fonts.now t.cursor) out.old) }
+    {
+        let c = self.start;
+        let codes = codes_at(*c, clear);
+        let standing = fonts_at(*c, clear);
+        let euro = c.euro;
+        let fonts = self.fonts;
+        let mut p = c.cursor;
+        let mut selected = c.font;
+        let mut k = put_clear(out, clear);
+        for (j, code) in self.codes.iter().enumerate() {
+            let font = fonts[j];
+            if differs(codes[j], standing[j], *code, font) {
+                let i = j as u8;
+                let at = put_way(out, k, p, i);
+                k = put_code(out, at, euro, selected, font, *code);
+                p = moves::next(i);
+                selected = font;
+            }
         }
-        i += 1;
+        put_way(out, k, p, self.cursor)
     }
-    put_way(out, k, p, asked)
-}
 
-// Puts the plan at the start of out: with the clear where that is shorter, else without it. Answers its length.
-pub(crate) fn put_either(
-    c: Condition,
-    wanted: &[u8],
-    fonts: &[u8],
-    asked: u8,
-    out: &mut [u8],
-) -> usize
-    requires { Given c wanted.now fonts.now asked
-        × (length (either_fonts_plan c wanted.now fonts.now asked) ≤ length out.old) }
-    ensures { (result ≡ length (either_fonts_plan c wanted.now fonts.now asked))
-        × (out.new ≡ at_start (either_fonts_plan c wanted.now fonts.now asked) out.old) }
-{
-    let clear = clear_wins(c, wanted, fonts, asked);
-    put_plan(c, clear, wanted, fonts, asked, out)
+    // Puts the plan at the start of out: with the clear where that is shorter, else without it. Answers its length.
+    pub fn put(self, out: &mut [u8]) -> usize
+        requires { length (either_fonts_plan self.start.now self.codes.now self.fonts.now self.cursor) ≤ length out.old }
+        ensures { let t = self.entry in
+            (result ≡ length (either_fonts_plan t.start.now t.codes.now t.fonts.now t.cursor))
+            × (out.new ≡ at_start (either_fonts_plan t.start.now t.codes.now t.fonts.now t.cursor) out.old) }
+    {
+        self.put_by(self.clear_wins(), out)
+    }
 }

@@ -10,9 +10,10 @@ pub fn codes_at(c: Condition, clear: bool) -> [u8; Condition::CELLS]
     ensures { result ≡ (start_of clear c).codes }
 {
     if clear {
-        return [0x20; Condition::CELLS];
+        [0x20; Condition::CELLS]
+    } else {
+        c.codes
     }
-    c.codes
 }
 
 // The fonts of the cells; cleared, each is the selected one.
@@ -20,14 +21,15 @@ pub fn fonts_at(c: Condition, clear: bool) -> [u8; Condition::CELLS]
     ensures { result ≡ (start_of clear c).fonts }
 {
     if clear {
-        return [c.font; Condition::CELLS];
+        [c.font; Condition::CELLS]
+    } else {
+        c.fonts
     }
-    c.fonts
 }
 
 // A cell has another code or another font than the wanted one.
 pub(crate) fn differs(code: u8, font: u8, wanted: u8, face: u8) -> bool
     ensures { result ≡ wrong_cell code font wanted face }
 {
-    !((code == wanted) & (font == face))
+    code != wanted || font != face
 }

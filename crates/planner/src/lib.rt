@@ -2,90 +2,77 @@
 #![tactic(auto)]
 
 ghost use Rattle.std.specs.Prelude.{◌≡◌};
-ghost use Rattle.planner.specs.Answer.{plan_refusal, Plans, PlansFonts, Counts};
+ghost use Rattle.refusals.specs.Refusals.{number_or_none};
+ghost use Rattle.planner.specs.Answer.{plan_refusal, planned, Plans, PlansFonts, Counts};
 
 use condition::Condition;
+use refusals::Refusal;
+use task::Task;
 
 mod bytes;
 pub mod cells;
 mod checks;
 mod counts;
+mod task;
 
 // The least room for a plan in one font, and for one in two: no plan is longer.
 pub const ROOM: usize = 44;
 
 pub const ROOM_FONTS: usize = 104;
 
-// What a planner, or a recovery, answers: a refusal number, 0 when accepted, and the plan's length, 0 when refused.
-#[derive(Clone, Copy)]
-pub struct Planned {
-    pub refusal: u8,
-    pub length: u8,
-}
-
-// What `plan` refuses by, with so much room in its output: 0 for nothing.
-pub fn refusal(c: Condition, wanted: &[u8], asked: u32, room: usize) -> u8
-    ensures { result ≡ plan_refusal c wanted.now asked room }
+// What `plan` refuses by, with so much room in its output.
+pub fn refusal(c: Condition, wanted: &[u8], asked: u32, room: usize) -> Option<Refusal>
+    ensures { number_or_none result ≡ plan_refusal c wanted.now asked room }
 {
-    checks::of_plan(c, wanted, asked, room)
+    checks::check_plan(&c, wanted, asked, room).err()
 }
 
 // What `plan` answers where it has room: its refusal, or its length. It is counted, and nothing is put.
-pub fn count(c: Condition, wanted: &[u8], asked: u32) -> Planned
-    ensures { Counts c wanted.now asked result }
+pub fn count(c: Condition, wanted: &[u8], asked: u32) -> Result<u8, Refusal>
+    ensures { Counts c wanted.now asked (planned result) }
 {
-    let n = checks::of_plan(c, wanted, asked, ROOM);
-    if n != 0 {
-        return Planned {
-            refusal: n,
-            length: 0,
-        };
-    }
-    let fonts = [c.font; Condition::CELLS];
-    let k = counts::count_either(c, wanted, &fonts, asked as u8);
-    Planned {
-        refusal: 0,
-        length: k,
-    }
+    checks::check_plan(&c, wanted, asked, ROOM)?;
+    let task = Task {
+        start: &c,
+        codes: wanted,
+        fonts: &[c.font; Condition::CELLS],
+        cursor: asked as u8,
+    };
+    Ok(task.count())
 }
 
-// The bytes that give the wanted codes in the selected font and the asked cursor, at the start of out; or a refusal, and
-// nothing changes. They may start with 0Eh, which clears.
-pub fn plan(c: Condition, wanted: &[u8], asked: u32, out: &mut [u8]) -> Planned
-    ensures { Plans c wanted.now asked out.old out.new result }
+// The bytes that give the wanted codes in the selected font and the asked cursor, at the start of out, and their number; or a
+// refusal, and nothing changes. They may start with 0Eh, which clears.
+pub fn plan(c: Condition, wanted: &[u8], asked: u32, out: &mut [u8]) -> Result<u8, Refusal>
+    ensures { Plans c wanted.now asked out.old out.new (planned result) }
 {
-    let room = out.len();
-    let n = checks::of_plan(c, wanted, asked, room);
-    if n != 0 {
-        return Planned {
-            refusal: n,
-            length: 0,
-        };
-    }
-    let fonts = [c.font; Condition::CELLS];
-    let k = bytes::put_either(c, wanted, &fonts, asked as u8, out);
-    Planned {
-        refusal: 0,
-        length: k as u8,
-    }
+    checks::check_plan(&c, wanted, asked, out.len())?;
+    let task = Task {
+        start: &c,
+        codes: wanted,
+        fonts: &[c.font; Condition::CELLS],
+        cursor: asked as u8,
+    };
+    Ok(task.put(out) as u8)
 }
 
-// The bytes that give the wanted codes, each in its wanted font, and the asked cursor, at the start of out; or a refusal, and
-// nothing changes. They may start with 0Eh, which clears. The selected font at the end is that of the last write.
-pub fn plan_fonts(c: Condition, wanted: &[u8], fonts: &[u8], asked: u32, out: &mut [u8]) -> Planned
-    ensures { PlansFonts c wanted.now fonts.now asked out.old out.new result }
+// The bytes that give the wanted codes, each in its wanted font, and the asked cursor, at the start of out, and their number; or a
+// refusal, and nothing changes. They may start with 0Eh, which clears. The selected font at the end is that of the last write.
+pub fn plan_fonts(
+    c: Condition,
+    wanted: &[u8],
+    fonts: &[u8],
+    asked: u32,
+    out: &mut [u8],
+) -> Result<u8, Refusal>
+    ensures { PlansFonts c wanted.now fonts.now asked out.old out.new (planned result) }
 {
-    let room = out.len();
-    let n = checks::of_fonts(c, wanted, fonts, asked, room);
-    if n != 0 {
-        return Planned {
-            refusal: n,
-            length: 0,
-        };
-    }
-    let k = bytes::put_either(c, wanted, fonts, asked as u8, out);
-    Planned {
-        refusal: 0,
-        length: k as u8,
-    }
+    checks::check_fonts(&c, wanted, fonts, asked, out.len())?;
+    let task = Task {
+        start: &c,
+        codes: wanted,
+        fonts,
+        cursor: asked as u8,
+    };
+    Ok(task.put(out) as u8)
 }

@@ -1,28 +1,21 @@
 use mathlib.Core.Path.{sym, ◌∙◌}
 use native.Mathlib.Omega.{arith}
-use borrow.Author.Tests.{ne_eqb}
-use Rattle.planner.specs.Answer.{bytes_by}
+use Rattle.std.proofs.lemmas.Result.{err_from_is_err_and}
 use Rattle.planner.proofs.Demand.{either-one-font}
-use Rattle.planner.proofs.Refusals.{accepted, plan-given}
+use Rattle.planner.proofs.Refusals.{accepted, plan-given, not-counted, counted-one}
 use Rattle.planner.proofs.count.Goals as goal
 
-pub returns-then-n-ne0 : goal.returns-then-n-ne0
-unfolding bytes_by
-returns-then-n-ne0 c = rw (← c.of_plan-n.ensures, ne_eqb _ _ c.if-n-ne0.true)
+pub returns-in_err-check_plan : goal.returns-in_err-check_plan
+returns-in_err-check_plan c =
+    let p = err_from_is_err_and c.from_residual.result c.from_residual.ensures.1 in
+    rw (p.1, p.2) (not-counted _ _ _ _ c.in_err-check_plan.ensures)
 
-pub overflow_cast-asked : goal.overflow_cast-asked
-overflow_cast-asked c =
-    omega (arith, (accepted _ _ _ _ (sym c.of_plan-n.ensures ∙ c.if-n-ne0.false)).0.asked-40)
+pub overflow_cast-task : goal.overflow_cast-task
+overflow_cast-task c = omega (arith, (accepted _ _ _ _ (sym c.in_ok-check_plan.ensures)).0.asked-40)
 
-pub count_either-k-requires : goal.count_either-k-requires
-count_either-k-requires c =
-    plan-given _ _ _ (accepted _ _ _ _ (sym c.of_plan-n.ensures ∙ c.if-n-ne0.false)).0
+pub invariant_of-task : goal.invariant_of-task
+invariant_of-task c = record { given = plan-given _ _ _ (accepted _ _ _ _ (sym c.in_ok-check_plan.ensures)).0 }
 
 pub returns : goal.returns
-unfolding bytes_by
 returns c =
-    rw (
-      sym c.of_plan-n.ensures ∙ c.if-n-ne0.false,
-      c.count_either-k.ensures,
-      either-one-font,
-    )
+    counted-one _ _ _ _ (sym c.in_ok-check_plan.ensures) (c.count.ensures ∙ rw either-one-font)

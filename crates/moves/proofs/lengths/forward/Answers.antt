@@ -8,5 +8,5 @@ use Rattle.moves.proofs.lengths.forward.Goals as goal
 pub returns-then-from-to : goal.returns-then-from-to
 returns-then-from-to c = λ e.
     let a = c.args in
-    let near = leb-true (a.to - a.from) 18 e in
+    let near = leb-true (a.to - a.from) _ e in
     (omega arith, dist-forward a.from a.to (search rules) (search rules) (omega arith) (omega arith) (λ z. omega arith))

@@ -5,5 +5,5 @@ pub returns-then-clear : goal.returns-then-clear
 unfolding clear_of
 returns-then-clear c = rw c.if-clear.true
 
-pub returns : goal.returns
-returns c = rw c.if-clear.false
+pub returns-else-clear : goal.returns-else-clear
+returns-else-clear c = rw c.if-clear.false

@@ -1,19 +1,16 @@
-use mathlib.Core.Path.{refl, sym, ◌∙◌}
-use native.Mathlib.Omega.{arith}
-use Rattle.planner.proofs.Wanted.{lacks-turn, lacks-stop, lacks-end}
+use mathlib.Core.Path.{◌∙◌}
+use Rattle.std.proofs.Common.{rules, tests}
+use Rattle.std.proofs.lemmas.Iterator.{YieldsList-from_slice}
+use Rattle.std.proofs.lemmas.Iterator.Search.{any_from_yields_List}
+use Rattle.users.specs.Users.{users_in}
+use Rattle.planner.specs.Answer.{lacks}
+use Rattle.planner.proofs.Wanted.{lacks-any}
 use Rattle.planner.proofs.checks.some_lacks.Goals as goal
 
-pub loop-i-init : goal.loop-i-init
-loop-i-init c = (omega arith, refl)
-
-pub returns-then-code_lacks : goal.returns-then-code_lacks
-returns-then-code_lacks c =
-    sym (c.loop-i.invariant.1 ∙ lacks-stop _ _ _ c.loop-i-test.true (sym c.code_lacks.ensures ∙ c.if-code_lacks.true))
-
-pub loop-i-preserved : goal.loop-i-preserved
-loop-i-preserved c =
-    let e = sym c.code_lacks.ensures ∙ c.if-code_lacks.false in
-    (omega arith, c.loop-i.invariant.1 ∙ lacks-turn _ _ _ c.loop-i-test.true e)
-
 pub returns : goal.returns
-returns c = sym (c.loop-i.invariant.1 ∙ lacks-end _ _ _ c.loop-i-test.false)
+unfolding lacks
+returns c =
+    let u = users_in c.args.users.now.bytes.now c.args.users.now.count in
+    any_from_yields_List (lacks u) _ _ _ c.any.ensures.ran (YieldsList-from_slice c.args.wanted.now (cc))
+    (λ x b q k. search (rules, tests))
+    ∙ lacks-any u c.args.wanted.now

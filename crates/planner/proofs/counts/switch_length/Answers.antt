@@ -1,3 +1,4 @@
+use mathlib.Core.Logic.{⊎_elim}
 use borrow.Author.Tests.{eq-eqb, ne_eqb}
 use Rattle.planner.specs.Fonts.{switch}
 use Rattle.planner.proofs.counts.switch_length.Goals as goal
@@ -6,14 +7,15 @@ pub returns-then-from-to : goal.returns-then-from-to
 unfolding switch
 returns-then-from-to c = rw (eq-eqb _ _ c.if-from-to.true)
 
-pub returns-then-to-eq1 : goal.returns-then-to-eq1
+pub returns-then-not-euro : goal.returns-then-not-euro
 unfolding switch
-returns-then-to-eq1 c = rw (ne_eqb _ _ c.if-from-to.false, eq-eqb _ _ c.if-to-eq1.true)
+returns-then-not-euro c =
+    let a = c.args in
+    rw (ne_eqb _ _ c.if-from-to.false)
+    (⊎_elim (λ e. rw (eq-eqb a.to 1 e)) (λ n. rw (ne_eqb a.to 1 n.0, n.1)) c.if-not-euro.either)
 
-pub returns-then-euro : goal.returns-then-euro
+pub returns-else-not-euro : goal.returns-else-not-euro
 unfolding switch
-returns-then-euro c = rw (ne_eqb _ _ c.if-from-to.false, ne_eqb _ _ c.if-to-eq1.false, c.if-euro.true)
-
-pub returns-else-euro : goal.returns-else-euro
-unfolding switch
-returns-else-euro c = rw (ne_eqb _ _ c.if-from-to.false, ne_eqb _ _ c.if-to-eq1.false, c.if-euro.false)
+returns-else-not-euro c =
+    let n = c.if-not-euro.false in
+    rw (ne_eqb _ _ c.if-from-to.false, ne_eqb _ _ n.0, n.1)
