@@ -58,10 +58,13 @@ in-first s =
     (rw (byte 13 (omega arith), byte 14 (omega arith), byte 15 (omega arith), byte 20 (omega arith))
     (rw (part 24 40 (omega arith), part 64 40 (omega arith), part 104 96 (omega arith), part 16 4 (omega arith)))))
 
--- bytes that hold a condition, of which t is the first 200
-pub enough : (s t : List ℕ) → 200 ≤ length s → t ≡ take 200 s → unpacked_of s ≡ condition_in t
+-- bytes that hold a condition; t is the first 200 of them
+pub enough : (s : List ℕ) → 200 ≤ length s → unpacked_of s ≡ condition_in s
 unfolding unpacked_of
-enough s t h e = rw (le-ltb _ _ h, e) (sym (in-first s))
+enough s h = rw (le-ltb _ _ h)
+
+pub first-enough : (s t : List ℕ) → 200 ≤ length s → t ≡ take 200 s → condition_in t ≡ unpacked_of s
+first-enough s t h e = rw (enough s h, e) (in-first s)
 
 -- a flag as the byte that a cast makes of it
 pub cast-flag : (t : Bool) → bool_byte t ≡ flag t
