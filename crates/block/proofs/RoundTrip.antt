@@ -12,8 +12,7 @@ use Rattle.laws.proofs.Tests.{both, by-test, passed, number_by}
 use Rattle.row.specs.Row.{same_bytes}
 use Rattle.row.proofs.Alike.{same-eq, same_refl}
 use Rattle.condition.specs.declared.Condition.{Condition}
-use Rattle.condition.specs.declared.Outcome.{Outcome}
-use Rattle.condition.specs.Condition.{well_formed, power_up}
+use Rattle.condition.specs.Condition.{well_formed, power_up, Outcome}
 use Rattle.layout.specs.Layout.{head_of, packed_of, condition_in}
 use Rattle.block.specs.Block.{check_of, body_of, seal_of, block_of}
 use Rattle.block.specs.Reading.{intact, sound, read_refusal, read_answer, ReadPromise}

@@ -1,8 +1,7 @@
 -- What a block is read as (document 01, Block; Refusal numbers and their order).
 use Rattle.std.specs.Prelude.{ℕ, ◌/◌, ◌%◌, ◌≡◌, List, Bool, true, cond, not, ◌&&◌, length, get_or, eqb}
 use Rattle.row.specs.Row.{same_bytes}
-use Rattle.condition.specs.declared.Outcome.{Outcome}
-use Rattle.condition.specs.Condition.{well_formed, power_up}
+use Rattle.condition.specs.Condition.{well_formed, power_up, Outcome}
 use Rattle.layout.specs.Layout.{condition_in}
 use Rattle.block.specs.Block.{check_of, block_of}
 

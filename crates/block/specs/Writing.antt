@@ -1,10 +1,21 @@
 -- What writing a block answers, and what it leaves in the buffer (document 01, Refusal numbers and their order).
-use Rattle.std.specs.Prelude.{ℕ, ◌≡◌, List, ◌++◌, cond, not, length, take, drop, eqb, ltb}
+use Rattle.std.specs.Prelude.{ℕ, ◌≡◌, List, ◌++◌, Result, Ok, Err, cond, not, length, take, drop, eqb, ltb}
 use Rattle.condition.specs.declared.Condition.{Condition}
 use Rattle.condition.specs.Condition.{well_formed}
-use Rattle.block.specs.declared.Written.{Written}
+use Rattle.refusals.specs.declared.Refusal.{Refusal}
+use Rattle.refusals.specs.Refusals.{number_of}
 use Rattle.block.specs.Block.{block_of}
 use Rattle.block.specs.Reading.{read_answer}
+
+-- what writing a block answers: a refusal number, 0 when accepted, and the length written
+pub record Written : Type 0 where
+  pub refusal : ℕ
+  pub length : ℕ
+
+-- the code's answer in these words
+abbrev pub written : Result ℕ Refusal → Written
+written (Ok n) = record { refusal = 0; length = n }
+written (Err refusal) = record { refusal = number_of refusal; length = 0 }
 
 -- 3: condition not well formed. 10: output under 512 bytes for a block
 unfoldable pub write_refusal : Condition → List ℕ → ℕ

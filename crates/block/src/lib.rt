@@ -3,11 +3,14 @@
 
 ghost use Rattle.std.specs.Prelude.{◌≡◌, ◌≤◌, cond, length};
 ghost use Rattle.block.specs.Block.{weigh, check_of, put_over};
-ghost use Rattle.block.specs.Reading.{intact, damage_of, refused_of, ReadPromise};
-ghost use Rattle.block.specs.Writing.{WritePromise};
+ghost use Rattle.refusals.specs.Refusals.{number_or_none};
+ghost use Rattle.condition.specs.Condition.{outcome};
+ghost use Rattle.block.specs.Reading.{intact, damage_of, ReadPromise};
+ghost use Rattle.block.specs.Writing.{written, WritePromise};
 ghost use Rattle.block.specs.Tidy.{kind_good, rest_zero, tidy};
 
-use condition::{Condition, Outcome};
+use condition::Condition;
+use refusals::Refusal;
 
 // The places of the check, and the length.
 pub const CHECK: usize = 510;
@@ -16,25 +19,14 @@ pub const LENGTH: usize = 512;
 
 const MODULUS: u32 = 65521;
 
-// What writing a block gives: a refusal number, 0 when accepted, and the length written.
-#[derive(Clone, Copy)]
-pub struct Written {
-    pub refusal: u8,
-    pub length: u16,
-}
-
 // The sum of each byte times its place, counted from 1.
 fn weighed(s: &[u8]) -> u32
     requires { length s.now ≤ 510 }
     ensures { result ≡ weigh 1 s.now }
 {
-    let mut sum: u32 = 0;
-    let mut place: u32 = 1;
-    let mut i = 0;
-    while i < s.len() {
-        sum += place * (s[i] as u32);
-        place += 1;
-        i += 1;
+    let mut sum = 0;
+    for (i, byte) in s.iter().enumerate() {
+        sum += (i as u32 + 1) * u32::from(*byte);
     }
     sum
 }
@@ -91,27 +83,18 @@ pub fn put(c: Condition, out: &mut [u8])
     out[CHECK + 1] = (sum / 256) as u8;
 }
 
-// A condition is written as a block at the start of a buffer.
-pub fn write(c: Condition, out: &mut [u8]) -> Written
-    ensures { WritePromise c out.old result out.new }
+// A condition is written as a block at the start of a buffer: Ok of the length written.
+pub fn write(c: Condition, out: &mut [u8]) -> Result<u16, Refusal>
+    ensures { WritePromise c out.old (written result) out.new }
 {
     if !c.well_formed() {
-        return Written {
-            refusal: 3,
-            length: 0,
-        };
+        return Err(Refusal::OutOfRange);
     }
     if out.len() < LENGTH {
-        return Written {
-            refusal: 10,
-            length: 0,
-        };
+        return Err(Refusal::NoRoom);
     }
     put(c, out);
-    Written {
-        refusal: 0,
-        length: LENGTH as u16,
-    }
+    Ok(LENGTH as u16)
 }
 
 // Bytes 0 to 2 and the check, which is to be `sum`, are as they should be.
@@ -153,49 +136,37 @@ fn is_tidy(block: &[u8], zeros: bool) -> bool
         & zeros
 }
 
-// Why a block is refused whatever condition stands in it: 1 or 2, or 3 where it is not the block of that condition; else 0.
-pub fn damage(block: &[u8]) -> u8
-    ensures { result ≡ damage_of block.now }
+// Why a block is refused whatever condition stands in it: its length, or bytes that are no block's, or that are not the block of that
+// condition.
+pub fn damage(block: &[u8]) -> Option<Refusal>
+    ensures { number_or_none result ≡ damage_of block.now }
 {
     if block.len() != LENGTH {
-        return 1;
+        return Some(Refusal::WrongLength);
     }
     let zeros = is_rest_zero(block);
     let sum = check_by(block, zeros);
     let intact = is_intact(block, sum);
     let tidy = is_tidy(block, zeros);
     if !intact {
-        return 2;
+        return Some(Refusal::Damaged);
     }
     if !tidy {
-        return 3;
+        return Some(Refusal::OutOfRange);
     }
-    0
-}
-
-// A refused reading gives power-up for font 0.
-fn refused(refusal: u8) -> Outcome
-    ensures { result ≡ refused_of refusal }
-{
-    let mut answer = Condition::power_up(0);
-    answer.refusal = refusal;
-    answer
+    None
 }
 
 // A block is read.
-pub fn read(block: &[u8]) -> Outcome
-    ensures { ReadPromise block.now result }
+pub fn read(block: &[u8]) -> Result<Condition, Refusal>
+    ensures { ReadPromise block.now (outcome result) }
 {
-    let wrong = damage(block);
-    if wrong != 0 {
-        return refused(wrong);
+    if let Some(refusal) = damage(block) {
+        return Err(refusal);
     }
-    if !layout::is_formed(block) {
-        return refused(3);
-    }
-    let c = layout::unpacked(block);
-    Outcome {
-        refusal: 0,
-        condition: c,
+    if layout::is_formed(block) {
+        Ok(layout::unpacked(block))
+    } else {
+        Err(Refusal::OutOfRange)
     }
 }

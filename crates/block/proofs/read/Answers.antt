@@ -1,15 +1,16 @@
-use Rattle.block.proofs.Answers.{damaged-read, unformed, taken}
+use mathlib.Core.Path.{refl}
+use Rattle.block.proofs.Answers.{damaged-read, unformed, taken, number-of-one, number-of-none}
 use Rattle.block.proofs.read.Goals as goal
 
-pub returns-then-wrong-ne0 : goal.returns-then-wrong-ne0
-returns-then-wrong-ne0 c = damaged-read _ _ _ c.damage-wrong.ensures c.if-wrong-ne0.true c.refused.ensures
+pub returns-in-Some : goal.returns-in-Some
+returns-in-Some c = damaged-read _ _ _ c.in-Some.ensures (number-of-one c.in-Some.refusal) refl
 
-pub returns-then-not-is_formed : goal.returns-then-not-is_formed
-returns-then-not-is_formed c =
-    unformed _ _ _ c.damage-wrong.ensures c.if-wrong-ne0.false c.is_formed.ensures
-    (c.if-not-is_formed.true) _ c.refused-then-not-is_formed.ensures
+pub returns-else-is_formed : goal.returns-else-is_formed
+returns-else-is_formed c =
+    unformed _ _ _ c.damage.ensures (number-of-none c.damage.result c.in_default.not-Some) c.is_formed.ensures
+    (c.if-is_formed.false) _ refl
 
-pub returns : goal.returns
-returns c =
-    taken _ _ _ c.damage-wrong.ensures c.if-wrong-ne0.false c.is_formed.ensures
-    (c.if-not-is_formed.false) _ c.unpacked-c.ensures
+pub returns-then-is_formed : goal.returns-then-is_formed
+returns-then-is_formed c =
+    taken _ _ _ c.damage.ensures (number-of-none c.damage.result c.in_default.not-Some) c.is_formed.ensures
+    (c.if-is_formed.true) _ c.unpacked.ensures

@@ -1,4 +1,4 @@
-use mathlib.Core.Path.{◌≡◌, refl, sym, ◌∙◌}
+use mathlib.Core.Path.{◌≡◌, sym, ◌∙◌}
 use Prim.Native.Nat.{ℕ, suc, ◌+◌, ◌*◌, ◌<◌, ◌≤◌}
 use native.Mathlib.Nat.{mul-le-mul, add_assoc, add-zero}
 use native.Mathlib.Numerals.{add-one}
@@ -25,39 +25,31 @@ product : (p b : ℕ) → p ≤ 510 → b < 256 → p * b ≤ 130050
 product p b hp hb = let hb' : b ≤ 255 = omega arith in mul-le-mul hp hb'
 
 pub loop-i-init : goal.loop-i-init
-loop-i-init c = (omega arith, omega arith, refl, omega arith)
+loop-i-init c = (omega arith, omega arith)
 
-pub overflow_cast-sum : goal.overflow_cast-sum
-overflow_cast-sum c = omega (arith, c.type_inv.s c.loop-i.i)
+pub overflow_add-sum : goal.overflow_add-sum
+overflow_add-sum c = omega arith
 
 pub overflow_mul-sum : goal.overflow_mul-sum
 overflow_mul-sum c =
     let l = c.loop-i in
-    let b : ℕ = get_or c.args.s.now l.i 0 in
-    let below = product l.place b (omega arith) (omega (arith, c.type_inv.s l.i)) in
+    let below = product (l.i + 1) c.from.result (omega arith) (omega (arith, c.type_inv.s l.i)) in
     omega arith
 
-pub overflow_add-sum : goal.overflow_add-sum
-overflow_add-sum c =
+pub overflow_add-sum-in-loop-i : goal.overflow_add-sum-in-loop-i
+overflow_add-sum-in-loop-i c =
     let l = c.loop-i in
-    let b : ℕ = get_or c.args.s.now l.i 0 in
-    let below = product l.place b (omega arith) (omega (arith, c.type_inv.s l.i)) in
+    let below = product (l.i + 1) c.from.result (omega arith) (omega (arith, c.type_inv.s l.i)) in
     omega arith
 
 pub loop-i-preserved : goal.loop-i-preserved
 loop-i-preserved c =
     let l = c.loop-i in
     let s = c.args.s.now in
-    let b : ℕ = get_or s l.i 0 in
-    let below = product l.place b (omega arith) (omega (arith, c.type_inv.s l.i)) in
-    let inside : l.i < length s = omega arith in (
-      turned s l.sum l.place l.i _ inside l.invariant.0,
-      omega arith,
-      omega arith,
-      omega arith,
-    )
+    let below = product (l.i + 1) c.from.result (omega arith) (omega (arith, c.type_inv.s l.i)) in
+    (rw c.from.ensures (turned s l.sum (l.i + 1) l.i _ c.loop-i-test.true l.invariant.0), omega arith)
 
 pub returns : goal.returns
 returns c =
     let l = c.loop-i in
-    ended c.args.s.now l.sum l.place l.i _ c.loop-i-test.false l.invariant.0
+    ended c.args.s.now l.sum (l.i + 1) l.i _ c.loop-i-test.false l.invariant.0

@@ -1,12 +1,8 @@
 use mathlib.Core.Path.{◌≡◌}
-use Prim.Native.Nat.{◌+◌, ◌*◌, ◌-◌, ◌≤◌}
-use lib.ListN.{length, drop}
+use Prim.Native.Nat.{◌+◌, ◌*◌, ◌≤◌}
+use lib.ListN.{drop}
 use Rattle.block.specs.Block.{weigh}
 use Rattle.block.proofs.weighed.Given as goal
 
 abbrev pub invariant-loop-i : goal.invariant-loop-i
-invariant-loop-i l =
-    (l.sum + weigh l.place (drop l.i l.s) ≡ weigh 1 l.s) × (l.i ≤ length l.s) × (l.place ≡ l.i + 1) × (l.sum ≤ 130050 * l.i)
-
-abbrev pub decreases-loop-i : goal.decreases-loop-i
-decreases-loop-i l = length l.s - l.i
+invariant-loop-i l = (l.sum + weigh (l.i + 1) (drop l.i l.s) ≡ weigh 1 l.s) × (l.sum ≤ 130050 * l.i)
