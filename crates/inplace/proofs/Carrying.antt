@@ -17,10 +17,9 @@ use Rattle.condition.proofs.Good.{Sized, reindexed-same, good}
 use Rattle.condition.proofs.Rows.{formed-by-list}
 use Rattle.layout.specs.Layout.{packed_of, condition_in, unpacked_of}
 use Rattle.layout.proofs.PackedBack.{enough, length-packed, packed-back}
-use Rattle.inplace.specs.declared.After.{After}
 use Rattle.inplace.specs.declared.Spent.{Spent}
 use Rattle.inplace.specs.InPlace.{LentIndex, Carried}
-use Rattle.inplace.specs.Carry.{carry_refusal, untouched_of, carried_of, after_of}
+use Rattle.inplace.specs.Carry.{After, carry_refusal, untouched_of, carried_of, after_of}
 
 -- a run on the condition c, packed as p, with entries x that are built from p
 module _ (c : Condition) (p x : List ℕ) (s : Sized c) (e : p ≡ packed_of c) (n : length x ≡ 256)

@@ -9,6 +9,10 @@ use lib.ListN.{length, get_or, length-append}
 use native.Mathlib.Nat.{add_assoc, add-zero}
 use borrow.Author.Tests.{eq-eqb, ne_eqb, leb-true, eqb-true, eqb-false, not-false}
 use Rattle.laws.proofs.Tests.{both, by-test, passed, number_by}
+use Rattle.refusals.specs.declared.Refusal.{Refusal}
+use Rattle.refusals.specs.declared.Refusal.TheVariants.{WrongLength, Damaged, OutOfRange, TooLong, TallyFull, HalfReceived}
+use Rattle.refusals.specs.declared.Refusal.TheVariants.{WrongMode, UserOnMove, NoCharacter, NoRoom, Lost}
+use Rattle.refusals.specs.Refusals.{number_of}
 use Rattle.condition.specs.declared.Condition.{Condition}
 use Rattle.condition.specs.Condition.{well_formed}
 use Rattle.condition.specs.Bytes.{run_of}
@@ -18,13 +22,12 @@ use Rattle.condition.proofs.Aside.{run-indexed}
 use Rattle.condition.proofs.Kept.{run-kept}
 use Rattle.condition.proofs.Pieces.{run-append, total-append, worst-law}
 use Rattle.interpreter.specs.declared.Tally.{Tally}
-use Rattle.interpreter.specs.declared.Ran.{Ran}
 use Rattle.inplace.specs.declared.Spent.{Spent}
 use Rattle.inplace.specs.InPlace.{Carried}
 use Rattle.inplace.specs.Carry.{carry_refusal}
 use Rattle.inplace.proofs.Running.{Small, small}
 use Rattle.inplace.proofs.Carrying.{accepts}
-use Rattle.interpreter.specs.Run.{limit, within_limit, zero_tally, tallied, run_refusal, refused_of, accepted_of, run_answer}
+use Rattle.interpreter.specs.Run.{Ran, limit, within_limit, zero_tally, tallied, run_refusal, refused_of, accepted_of, run_answer}
 use Rattle.interpreter.specs.Run.{in_turn, RunPromise, LentPromise}
 
 -- each number of a tally within its limit
@@ -46,6 +49,20 @@ within t e =
       flickerless = leb-true t.flickerless limit q.1;
       worst = leb-true t.worst limit p.1;
     }
+
+-- no refusal has the number of what is accepted
+pub numbered : (e : Refusal) → number_of e ≡ 0 → ⊥
+numbered WrongLength z = omega arith
+numbered Damaged z = omega arith
+numbered OutOfRange z = omega arith
+numbered TooLong z = omega arith
+numbered TallyFull z = omega arith
+numbered HalfReceived z = omega arith
+numbered WrongMode z = omega arith
+numbered UserOnMove z = omega arith
+numbered NoCharacter z = omega arith
+numbered NoRoom z = omega arith
+numbered Lost z = omega arith
 
 -- refused, by its number
 not-run : (c : Condition) (t : Tally) (bs : List ℕ) (r : Ran) (n : ℕ) → r ≡ refused_of n c t → run_refusal c t bs ≡ n → (n ≡ 0 → ⊥)
@@ -129,8 +146,8 @@ module _ (c k : Condition) (bs : List ℕ) (spent : Spent) (g : Carried c bs k s
   unfolding tallied
   tallies t = rw g.spends
 
-  pub ran : (t : Tally) → ◌≡◌ {A = Ran} (record { refusal = 0; condition = k; tally = added t }) (accepted_of c t bs)
-  ran t = rw (g.leaves, tallies t)
+  pub ran_as : (t : Tally) → ◌≡◌ {A = Ran} (record { refusal = 0; condition = k; tally = added t }) (accepted_of c t bs)
+  ran_as t = rw (g.leaves, tallies t)
 
 -- After any runs from the zero tally, the worst total is the busy one and 200 more for each flickerless byte --------------------
 

@@ -1,11 +1,19 @@
 -- A run and the tally (document 01, Busy time and the tally; Refusal numbers and their order; document 02, W2).
-use Rattle.std.specs.Prelude.{ℕ, ◌+◌, ◌≡◌, List, [], ◌∷◌, Bool, true, cond, not, ◌&&◌, length, eqb, ltb, leb}
+use Rattle.std.specs.Prelude.{ℕ, ◌+◌, ◌≡◌, List, [], ◌∷◌, Bool, true, cond, not, ◌&&◌, length, eqb, ltb, leb, Result, Ok, Err}
+use Rattle.refusals.specs.declared.Refusal.{Refusal}
+use Rattle.refusals.specs.Refusals.{number_of}
 use Rattle.condition.specs.declared.Condition.{Condition}
 use Rattle.condition.specs.Condition.{well_formed}
 use Rattle.condition.specs.Bytes.{run_of}
 use Rattle.condition.specs.Busy.{busy_of, flickerless_of, worst_of}
 use Rattle.interpreter.specs.declared.Tally.{Tally}
-use Rattle.interpreter.specs.declared.Ran.{Ran}
+use Rattle.interpreter.specs.declared.Ran.{Ran as Accepted}
+
+-- A run's answer in the paper's words: a refusal number, 0 when accepted, and the condition and the tally after it
+pub record Ran : Type 0 where
+  pub refusal : ℕ
+  pub condition : Condition
+  pub tally : Tally
 
 -- Each is at most 4,000,000,000
 abbrev pub limit : ℕ
@@ -38,6 +46,11 @@ run_refusal c t bs =
 -- a refused run returns the condition it got, and nothing lent changes
 abbrev pub refused_of : ℕ → Condition → Tally → Ran
 refused_of n c t = record { refusal = n; condition = c; tally = t }
+
+-- the answer of a run on the condition c and the tally t
+abbrev pub ran : Condition → Tally → Result Accepted Refusal → Ran
+ran c t (Ok left) = record { refusal = 0; condition = left.condition; tally = left.tally }
+ran c t (Err e) = refused_of (number_of e) c t
 
 abbrev pub accepted_of : Condition → Tally → List ℕ → Ran
 accepted_of c t bs = record { refusal = 0; condition = run_of c bs; tally = tallied t c bs }

@@ -2,9 +2,11 @@
 #![tactic(auto)]
 
 ghost use Rattle.std.specs.Prelude.{◌≡◌};
-ghost use Rattle.interpreter.specs.Run.{within_limit, zero_tally, refused_of, RunPromise, LentPromise};
+ghost use Rattle.interpreter.specs.Run.{within_limit, zero_tally, ran, RunPromise, LentPromise};
 
 use condition::Condition;
+use inplace::After;
+use refusals::Refusal;
 
 // What a run adds to: bytes, busy microseconds, bytes received while flickerless was already on, busy microseconds at the worst.
 #[derive(Clone, Copy)]
@@ -30,69 +32,52 @@ impl Tally {
             worst: 0,
         }
     }
+
+    #[tactic(auto, unfolding(crate::specs::Run::within_limit))]
+    fn is_within_limit(self) -> bool
+        ensures { result ≡ within_limit self }
+    {
+        self.bytes <= Tally::LIMIT
+            && self.busy <= Tally::LIMIT
+            && self.flickerless <= Tally::LIMIT
+            && self.worst <= Tally::LIMIT
+    }
 }
 
-// A run's answer: a refusal number, 0 when accepted, and the condition and the tally after it.
+// The condition and the tally after a run.
 #[derive(Clone, Copy)]
 pub struct Ran {
-    pub refusal: u8,
     pub condition: Condition,
     pub tally: Tally,
 }
 
-fn within_limit(t: Tally) -> bool
-    ensures { result ≡ within_limit t }
+// The bytes are carried out in turn, and the tally is brought up to date. Refused as out of range for a condition that is not well
+// formed or a tally above its limit, as too long for more than 32,768 bytes, as a full tally where a number of it would pass its
+// limit.
+pub fn run(c: Condition, t: Tally, bytes: &[u8]) -> Result<Ran, Refusal>
+    ensures { RunPromise c t bytes.now (ran c t result) }
 {
-    (t.bytes <= Tally::LIMIT)
-        & (t.busy <= Tally::LIMIT)
-        & (t.flickerless <= Tally::LIMIT)
-        & (t.worst <= Tally::LIMIT)
-}
-
-fn refused(n: u8, c: Condition, t: Tally) -> Ran
-    ensures { result ≡ refused_of n c t }
-{
-    Ran {
-        refusal: n,
-        condition: c,
-        tally: t,
+    if !t.is_within_limit() {
+        return Err(Refusal::OutOfRange);
     }
-}
-
-// The bytes are carried out in turn, and the tally is brought up to date.
-pub fn run(c: Condition, t: Tally, bytes: &[u8]) -> Ran
-    ensures { RunPromise c t bytes.now result }
-{
-    if !within_limit(t) {
-        return refused(3, c, t);
-    }
-    let after = inplace::carry(c, bytes);
-    if after.refusal != 0 {
-        return refused(after.refusal, c, t);
-    }
-    let condition = after.condition;
-    let spent = after.spent;
-    let next = Tally {
+    let After { condition, spent } = inplace::carry(c, bytes)?;
+    let tally = Tally {
         bytes: t.bytes + bytes.len() as u32,
         busy: t.busy + spent.busy,
         flickerless: t.flickerless + spent.flickerless,
         worst: t.worst + spent.worst,
     };
-    if !within_limit(next) {
-        return refused(5, c, t);
+    if !tally.is_within_limit() {
+        return Err(Refusal::TallyFull);
     }
-    Ran {
-        refusal: 0,
-        condition: condition,
-        tally: next,
-    }
+    Ok(Ran { condition, tally })
 }
 
 // The same with the tally lent: its numbers are brought up to date there.
-pub fn run_lent(t: &mut Tally, c: Condition, bytes: &[u8]) -> Ran
-    ensures { LentPromise c t.old bytes.now result t.new }
+pub fn run_lent(t: &mut Tally, c: Condition, bytes: &[u8]) -> Result<Ran, Refusal>
+    ensures { LentPromise c t.old bytes.now (ran c t.old result) t.new }
 {
-    let r = run(c, *t, bytes);
-    *t = r.tally;
-    r
+    let ran = run(c, *t, bytes)?;
+    *t = ran.tally;
+    Ok(ran)
 }

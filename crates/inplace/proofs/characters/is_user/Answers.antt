@@ -1,4 +1,6 @@
 use native.Mathlib.Omega.{arith}
+use mathlib.Core.Path.{ap, ◌∙◌}
+use Rattle.users.specs.declared.Users.{Users}
 use Rattle.users.specs.Users.{is_user}
 use Rattle.layout.specs.Layout.{condition_in}
 use Rattle.inplace.proofs.Altering.{looked-up-in}
@@ -10,5 +12,4 @@ returns-in-Some c =
     rw (h.1 0, c.from.ensures) (looked-up-in _ (condition_in c.args.s.now) _ c.requires (omega (arith, h.0, c.from.ensures)))
 
 pub returns-in-None : goal.returns-in-None
-unfolding is_user condition_in
-returns-in-None c = rw (c.is_found.ensures, c.find.ensures)
+returns-in-None c = c.is_user.ensures ∙ ap (λ (u : Users). is_user u c.args.code) c.list.ensures
