@@ -2,27 +2,58 @@
 use mathlib.Core.Path.{◌≡◌, refl, sym, ap, ◌∙◌}
 use mathlib.Core.Bool.{Bool, true, false, cond, not}
 use mathlib.Core.List.{List}
-use Prim.Native.Nat.{ℕ}
+use native.Mathlib.Omega.{arith}
+use Rattle.std.specs.Prelude.{Ok, Err}
+use Rattle.refusals.specs.declared.Refusal.{Refusal}
+use Rattle.refusals.specs.declared.Refusal.TheVariants.{WrongLength, Damaged, OutOfRange, TooLong, TallyFull, HalfReceived}
+use Rattle.refusals.specs.declared.Refusal.TheVariants.{WrongMode, UserOnMove, NoCharacter, NoRoom, Lost}
+use Rattle.refusals.specs.Refusals.{number_of}
+use Prim.Native.Nat.{ℕ, ◌≤◌}
 use lib.Dec.{eqb}
 use borrow.Author.Tests.{eq-eqb, ne_eqb}
 use Rattle.laws.proofs.Tests.{number_by}
 use Rattle.condition.specs.declared.Condition.{Condition}
-use Rattle.condition.specs.declared.Outcome.{Outcome}
-use Rattle.condition.specs.Condition.{well_formed, power_up_answer}
+use Rattle.condition.specs.Condition.{Outcome, outcome, well_formed}
 use Rattle.layout.specs.Layout.{condition_in, unpacked_of}
-use Rattle.block.specs.Reading.{read_refusal, damage_of}
+use Rattle.block.specs.Reading.{read_refusal, damage_of, refused_of}
 use Rattle.block.proofs.Damaged.{read_by, whole-unpacked}
 use Rattle.host.specs.Host.{opened_of, host_refusal_by}
 
-pub opened-damaged : (b : List ℕ) (n : ℕ) (g : Outcome) → n ≡ damage_of b → (n ≡ 0 → ⊥) → g ≡ power_up_answer 0
-    → record { refusal = n; condition = g.condition } ≡ opened_of b
-unfolding opened_of power_up_answer
-opened-damaged b n g d h e = rw (← d, ne_eqb n 0 h, e)
+-- a refusal has a number
+pub not-none : (refusal : Refusal) → number_of refusal ≡ 0 → ⊥
+not-none WrongLength z = omega arith
+not-none Damaged z = omega arith
+not-none OutOfRange z = omega arith
+not-none TooLong z = omega arith
+not-none TallyFull z = omega arith
+not-none HalfReceived z = omega arith
+not-none WrongMode z = omega arith
+not-none UserOnMove z = omega arith
+not-none NoCharacter z = omega arith
+not-none NoRoom z = omega arith
+not-none Lost z = omega arith
 
-pub opened-whole : (b : List ℕ) (n : ℕ) (c : Condition) → n ≡ damage_of b → n ≡ 0 → c ≡ unpacked_of b
-    → record { refusal = 0; condition = c } ≡ opened_of b
+-- none is above 11
+pub most-11 : (refusal : Refusal) → number_of refusal ≤ 11
+most-11 WrongLength = omega arith
+most-11 Damaged = omega arith
+most-11 OutOfRange = omega arith
+most-11 TooLong = omega arith
+most-11 TallyFull = omega arith
+most-11 HalfReceived = omega arith
+most-11 WrongMode = omega arith
+most-11 UserOnMove = omega arith
+most-11 NoCharacter = omega arith
+most-11 NoRoom = omega arith
+most-11 Lost = omega arith
+
+pub opened-damaged : (b : List ℕ) (refusal : Refusal) → number_of refusal ≡ damage_of b → outcome (Err refusal) ≡ opened_of b
 unfolding opened_of
-opened-whole b n c d z e = rw (← d, z, e ∙ whole-unpacked b (sym d ∙ z))
+opened-damaged b refusal d = rw (← d, ne_eqb (number_of refusal) 0 (not-none refusal))
+
+pub opened-whole : (b : List ℕ) (c : Condition) → 0 ≡ damage_of b → c ≡ unpacked_of b → outcome (Ok c) ≡ opened_of b
+unfolding opened_of
+opened-whole b c z e = rw (← z, e ∙ whole-unpacked b (sym z))
 
 -- opened, it is refused for its damage, or its condition is at hand
 opened-number : (b : List ℕ) (g : Outcome) → g ≡ opened_of b → g.refusal ≡ damage_of b

@@ -1,7 +1,9 @@
 -- What the calls of the C host program on a block share: opening it, and an answer with its refusal as one number (document 01,
 -- Refusal numbers and their order).
-use Rattle.std.specs.Prelude.{ℕ, ◌+◌, Bool, cond, not, List, eqb}
-use Rattle.condition.specs.declared.Outcome.{Outcome}
+use Rattle.std.specs.Prelude.{ℕ, ◌+◌, Bool, cond, not, List, eqb, Result, Ok, Err}
+use Rattle.refusals.specs.declared.Refusal.{Refusal}
+use Rattle.refusals.specs.Refusals.{refusal_in}
+use Rattle.condition.specs.Condition.{Outcome}
 use Rattle.layout.specs.Layout.{condition_in}
 use Rattle.block.specs.Reading.{read_refusal, damage_of, refused_of}
 use Rattle.host.specs.declared.Base.{Base}
@@ -26,6 +28,15 @@ abbrev pub base_of : Base → ℕ
 base_of Plan = 256
 base_of Question = 65536
 
+-- the value of an answer, 0 where it is refused
+abbrev pub value_in : Result ℕ Refusal → ℕ
+value_in (Ok value) = value
+value_in (Err refusal) = 0
+
 -- an answer as one number: the value, or a base plus the refusal
 unfoldable pub host_answer : Base → ℕ → ℕ → ℕ
 host_answer base refusal value = cond (eqb refusal 0) value (base_of base + refusal)
+
+-- the same of an answer of the code; a refused one has no value
+abbrev pub answer_number : Base → Result ℕ Refusal → ℕ
+answer_number base answer = host_answer base (refusal_in answer) (value_in answer)

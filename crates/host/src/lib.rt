@@ -2,9 +2,11 @@
 #![tactic(auto)]
 
 ghost use Rattle.std.specs.Prelude.{◌≡◌, ◌≤◌};
-ghost use Rattle.host.specs.Host.{opened_of, base_of, host_answer};
+ghost use Rattle.condition.specs.Condition.{outcome};
+ghost use Rattle.host.specs.Host.{opened_of, base_of, answer_number};
 
-use condition::{Condition, Outcome};
+use condition::Condition;
+use refusals::Refusal;
 
 // The base of the refusals in an answer: above the longest plan, or above what a question can answer.
 #[derive(Clone, Copy)]
@@ -15,20 +17,13 @@ pub enum Base {
 
 // The condition that stands in a block, well formed or not, or what the block is refused for whatever stands in it. So a call
 // looks at a block once: what it then has the library do refuses by 3 where the condition is not well formed.
-pub fn opened(block: &[u8]) -> Outcome
-    ensures { result ≡ opened_of block.now }
+pub fn opened(block: &[u8]) -> Result<Condition, Refusal>
+    ensures { outcome result ≡ opened_of block.now }
 {
-    let damage = block::damage(block);
-    if damage != 0 {
-        let mut none = Condition::power_up(0);
-        none.refusal = damage;
-        return none;
+    if let Some(damage) = block::damage(block) {
+        return Err(damage);
     }
-    let c = layout::unpacked(block);
-    Outcome {
-        refusal: 0,
-        condition: c,
-    }
+    Ok(layout::unpacked(block))
 }
 
 fn base_of(base: Base) -> u32
@@ -41,11 +36,11 @@ fn base_of(base: Base) -> u32
 }
 
 // An answer as one number: the value, or a base plus the refusal.
-pub fn answer(base: Base, refusal: u8, value: u32) -> u32
-    ensures { result ≡ host_answer base refusal value }
+pub fn answer(base: Base, answer: Result<u32, Refusal>) -> u32
+    ensures { result ≡ answer_number base answer }
 {
-    if refusal != 0 {
-        return base_of(base) + (refusal as u32);
+    match answer {
+        Ok(value) => value,
+        Err(refusal) => base_of(base) + u32::from(refusal),
     }
-    value
 }

@@ -1,11 +1,17 @@
 use Rattle.host.specs.Host.{host_answer}
-use borrow.Author.Tests.{eq-eqb, ne_eqb}
+use native.Mathlib.Omega.{arith}
+use borrow.Author.Tests.{ne_eqb}
+use Rattle.host.proofs.Once.{not-none, most-11}
 use Rattle.host.proofs.answer.Goals as goal
 
-pub returns-then-refusal-ne0 : goal.returns-then-refusal-ne0
-unfolding host_answer
-returns-then-refusal-ne0 c = rw (c.base_of.ensures.0, ne_eqb _ _ c.if-refusal-ne0.true)
+pub overflow_add-result : goal.overflow_add-result
+overflow_add-result c = omega (arith, most-11 c.in-Err.refusal)
 
-pub returns : goal.returns
+pub returns-in-Ok : goal.returns-in-Ok
 unfolding host_answer
-returns c = rw (eq-eqb _ _ c.if-refusal-ne0.false)
+returns-in-Ok c = rw c.in-Ok.is
+
+pub returns-in-Err : goal.returns-in-Err
+unfolding host_answer
+returns-in-Err c =
+    rw (c.in-Err.is, c.base_of.ensures.0, c.from.ensures, ne_eqb _ 0 (not-none c.in-Err.refusal))
