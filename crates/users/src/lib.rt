@@ -172,11 +172,9 @@ fn remove(bytes: &mut [u8], k: usize, youngest: usize)
     requires { (k ≤ youngest) × (youngest * 6 + 6 ≤ length bytes.old) }
     ensures { bytes.new ≡ removed k youngest bytes.old }
 {
+    let at = k * Users::PLACE;
     let end = youngest * Users::PLACE;
-    bytes.copy_within(
-        k * Users::PLACE + Users::PLACE..end + Users::PLACE,
-        k * Users::PLACE,
-    );
+    bytes.copy_within(at + Users::PLACE..end + Users::PLACE, at);
     bytes[end..end + Users::PLACE].fill(0);
 }
 
