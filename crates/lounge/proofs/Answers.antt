@@ -13,8 +13,6 @@ use Rattle.lounge.specs.declared.Ran.{Ran}
 use Rattle.lounge.specs.Condition.{well_formed}
 use Rattle.lounge.specs.Pairs.{run_of}
 use Rattle.lounge.specs.Run.{kinds_formed, run_refusal, refused_of, accepted_of, run_answer, in_turn, RunPromise}
-use Rattle.lounge.specs.Head.{head_of, lounge_in}
-use Rattle.lounge.proofs.Stores.{head-back}
 use Rattle.lounge.proofs.Turns.{kinds-append, run-append}
 use Rattle.lounge.proofs.Kept.{Sized, Fit, fit, formed, run-kept}
 
@@ -47,14 +45,6 @@ module _ (c : Lounge) (bs : List ℕ) (r : Ran) where
             answer = e ∙ sym (rw (ne_eqb (length bs % 2) 1 even, w, k, le-ltb 32768 (length bs / 2) h));
             kept = λ z. ap (λ (r : Ran). well_formed r.condition) e ∙ formed (run_of c bs) (run-kept c bs (fit c s w));
           }
-
--- a run on the head and the rows of a condition
-pub carried : (c k : Lounge) (bs h h' codes' marks' us' : List ℕ) → Sized c → h ≡ head_of c
-    → lounge_in h' codes' marks' us' ≡ run_of (lounge_in h c.codes c.marks c.users) bs
-    → k ≡ lounge_in h' codes' marks' us' → ◌≡◌ {A = Ran} (record { refusal = 0; condition = k }) (accepted_of c bs)
-carried c k bs h h' codes' marks' us' s e f g =
-    let whole : k ≡ run_of c bs = g ∙ f ∙ rw e (rw (head-back c s.held-4)) in
-    λ i. record { refusal = 0; condition = whole i }
 
 -- any two answers that the promise allows are equal
 pub one-run : (c : Lounge) (bs : List ℕ) (r s : Ran) → RunPromise c bs r → RunPromise c bs s → r ≡ s

@@ -1,43 +1,43 @@
 -- Pairs one after the other: the kinds, and a run, turn by turn and in pieces.
-use Prim.Native.Nat.{ℕ, ◌+◌, ◌<◌, ◌≤◌, ◌%◌}
+use Prim.Native.Nat.{ℕ, ◌<◌, ◌%◌}
 use mathlib.Core.Path.{◌≡◌, refl, sym}
-use mathlib.Core.Logic.{◌⊎◌}
-use mathlib.Core.Bool.{true, ◌&&◌, and-true, and_assoc}
+use mathlib.Core.Bool.{true, ◌&&◌, and_assoc}
 use mathlib.Core.List.{List, [], ◌∷◌, ◌++◌}
 use native.Mathlib.Omega.{arith}
 use lib.Dec.{leb}
-use lib.ListN.{length, get_or, drop, length-drop, drop_of_length-le}
-use Rattle.laws.proofs.Tests.{most-of}
-use Rattle.laws.proofs.Lists.{next-two}
+use lib.ListN.{length, get_or}
 use Rattle.lounge.specs.declared.Lounge.{Lounge}
 use Rattle.lounge.specs.Pairs.{step_of, run_of}
 use Rattle.lounge.specs.Run.{kinds_formed}
 
--- The kinds: m is the most so far, k with one pair more
-pub kinds-turn : (s : List ℕ) (i m k : ℕ) → i + 2 ≤ length s → m ≤ k → get_or s i 0 ≤ k → (k ≡ m) ⊎ (k ≡ get_or s i 0)
-    → (leb m 1 && kinds_formed (drop i s)) ≡ (leb k 1 && kinds_formed (drop (i + 2) s))
+-- A pair p in front of the rest, and fewer bytes than a pair
+pub kinds-pair : (p rest s : List ℕ) → s ≡ p ++ rest → length p ≡ 2
+    → kinds_formed s ≡ (leb (get_or p 0 0) 1 && kinds_formed rest)
 unfolding kinds_formed
-kinds-turn s i m k h hm hx hk = rw (next-two s i h) (most-of 1 m (get_or s i 0) k _ hm hx hk)
+kinds-pair [] rest s e l = absurd (omega arith)
+kinds-pair (kind ∷ []) rest s e l = absurd (omega arith)
+kinds-pair (kind ∷ b ∷ []) rest s e l = rw e
+kinds-pair (kind ∷ b ∷ x ∷ p) rest s e l = absurd (omega arith)
 
--- no whole pair is left
-pub kinds-ended : (s : List ℕ) (i m : ℕ) → length s < i + 2 → (leb m 1 && kinds_formed (drop i s)) ≡ leb m 1
+pub kinds-few : (s : List ℕ) → length s < 2 → kinds_formed s ≡ true
 unfolding kinds_formed
-kinds-ended s i m h = rw (few (drop i s) (rw (length-drop i s) (omega arith))) (and-true (leb m 1))
-  where
-    few : (l : List ℕ) → length l < 2 → kinds_formed l ≡ true
-    few [] h = refl
-    few (x ∷ []) h = refl
-    few (x ∷ y ∷ l) h = absurd (omega arith)
+kinds-few [] h = refl
+kinds-few (kind ∷ []) h = refl
+kinds-few (kind ∷ b ∷ s) h = absurd (omega arith)
 
--- A run
-pub run-turn : (c : Lounge) (s : List ℕ) (i : ℕ) → i + 2 ≤ length s
-    → run_of (step_of c (get_or s i 0) (get_or s (i + 1) 0)) (drop (i + 2) s) ≡ run_of c (drop i s)
+pub run-pair : (c : Lounge) (p rest s : List ℕ) → s ≡ p ++ rest → length p ≡ 2
+    → run_of c s ≡ run_of (step_of c (get_or p 0 0) (get_or p 1 0)) rest
 unfolding run_of
-run-turn c s i h = rw (next-two s i h)
+run-pair c [] rest s e l = absurd (omega arith)
+run-pair c (kind ∷ []) rest s e l = absurd (omega arith)
+run-pair c (kind ∷ b ∷ []) rest s e l = rw e
+run-pair c (kind ∷ b ∷ x ∷ p) rest s e l = absurd (omega arith)
 
-pub run-ended : (c : Lounge) (s : List ℕ) (i : ℕ) → length s ≤ i → run_of c (drop i s) ≡ c
+pub run-few : (c : Lounge) (s : List ℕ) → length s < 2 → run_of c s ≡ c
 unfolding run_of
-run-ended c s i h = rw (drop_of_length-le s h)
+run-few c [] h = refl
+run-few c (kind ∷ []) h = refl
+run-few c (kind ∷ b ∷ s) h = absurd (omega arith)
 
 -- Whole pairs, and others behind them -------------------------------------------------------------------------------------------
 

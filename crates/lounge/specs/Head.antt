@@ -1,5 +1,5 @@
--- What a run works on, in place: the rows of a condition as they are, and its other parts as 13 bytes, the head.
-use Rattle.std.specs.Prelude.{ℕ, ◌≡◌, List, [], ◌∷◌, cond, get_or, take, drop, eqb}
+-- A condition as the tests hand it over: its rows as they are, and its other parts as 13 bytes, the head.
+use Rattle.std.specs.Prelude.{ℕ, List, [], ◌∷◌, cond, get_or, take, drop, eqb}
 use Rattle.laws.specs.Flags.{flag}
 use Rattle.lounge.specs.declared.Lounge.{Lounge}
 use Rattle.lounge.specs.declared.Pending.{Pending}
@@ -57,25 +57,3 @@ lounge_in h codes marks us =
       pending = pending_of (get_or h 6 0) (get_or h 7 0) (get_or h 8 0);
       held = take 4 (drop 9 h);
     }
-
--- What the parts of a run make of a condition, whatever stands in the rows that are not lent:
-
--- of the head alone
-abbrev pub Sets : (Lounge → Lounge) → List ℕ → List ℕ → Type 0
-Sets f h h' = (codes marks us : List ℕ) → lounge_in h' codes marks us ≡ f (lounge_in h codes marks us)
-
--- of the head and the cells
-abbrev pub SetsCells : (Lounge → Lounge) → List ℕ → List ℕ → List ℕ → List ℕ → List ℕ → List ℕ → Type 0
-SetsCells f h codes marks h' codes' marks' = (us : List ℕ) → lounge_in h' codes' marks' us ≡ f (lounge_in h codes marks us)
-
--- of the head and the marks
-abbrev pub SetsMarks : (Lounge → Lounge) → List ℕ → List ℕ → List ℕ → List ℕ → Type 0
-SetsMarks f h marks h' marks' = (codes us : List ℕ) → lounge_in h' codes marks' us ≡ f (lounge_in h codes marks us)
-
--- of the head and the user characters
-abbrev pub SetsUsers : (Lounge → Lounge) → List ℕ → List ℕ → List ℕ → List ℕ → Type 0
-SetsUsers f h us h' us' = (codes marks : List ℕ) → lounge_in h' codes marks us' ≡ f (lounge_in h codes marks us)
-
--- of the head, the marks and the user characters
-abbrev pub SetsRest : (Lounge → Lounge) → List ℕ → List ℕ → List ℕ → List ℕ → List ℕ → List ℕ → Type 0
-SetsRest f h marks us h' marks' us' = (codes : List ℕ) → lounge_in h' codes marks' us' ≡ f (lounge_in h codes marks us)

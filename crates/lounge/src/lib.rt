@@ -7,12 +7,8 @@ ghost use Rattle.lounge.specs.Run.{kinds_formed, refused_of, RunPromise};
 ghost use Rattle.lounge.specs.Shows.{shows_of, level_of, unseen_of, view_answer};
 ghost use Rattle.lounge.specs.Marks.{has_mark};
 
-use crate::heads::{head, whole};
-use crate::pairs::run_in;
-
 mod cells;
 mod controls;
-mod fields;
 pub mod heads;
 mod marking;
 mod pairs;
@@ -83,46 +79,32 @@ pub struct Seen {
     pub underlined: bool,
 }
 
-fn held_of(p: Pending) -> u8
-    ensures { result ≡ held_of p }
-{
-    match p {
-        Pending::Nothing => 0,
-        Pending::Escape => 0,
-        Pending::UserData(_, n) => n,
-        Pending::First(_) => 0,
-        Pending::Second(_, _) => 0,
+impl Pending {
+    // How many bytes are held of a user character's data.
+    fn held(self) -> u8
+        ensures { result ≡ held_of self }
+    {
+        match self {
+            Pending::UserData(_, n) => n,
+            _ => 0,
+        }
+    }
+
+    // A half-received area code is one of them.
+    fn area_formed(self) -> bool
+        ensures { result ≡ area_formed self }
+    {
+        match self {
+            Pending::First(area) | Pending::Second(area, _) => is_area(area),
+            _ => true,
+        }
     }
 }
 
 fn is_area(b: u8) -> bool
     ensures { result ≡ is_area b }
 {
-    (b == Lounge::LUMINANCE) | (b == Lounge::BLINK) | (b == Lounge::UNDERLINE)
-}
-
-fn area_formed(p: Pending) -> bool
-    ensures { result ≡ area_formed p }
-{
-    match p {
-        Pending::Nothing => true,
-        Pending::Escape => true,
-        Pending::UserData(_, _) => true,
-        Pending::First(area) => is_area(area),
-        Pending::Second(area, _) => is_area(area),
-    }
-}
-
-fn numbers_formed(c: Lounge) -> bool
-    ensures { result ≡ numbers_formed c }
-{
-    ((c.cursor as usize) < Lounge::CELLS) & (1 <= c.mode) & (c.mode <= 2)
-}
-
-fn scroll_formed(c: Lounge) -> bool
-    ensures { result ≡ scroll_formed c }
-{
-    !c.scrolling | ((c.mode == 2) & (c.cursor % Lounge::COLUMNS == Lounge::LAST_COLUMN))
+    matches!(b, Lounge::LUMINANCE | Lounge::BLINK | Lounge::UNDERLINE)
 }
 
 impl Lounge {
@@ -135,6 +117,11 @@ impl Lounge {
 
     pub const LAST_COLUMN: u8 = 19;
 
+    // The modes.
+    pub const DC1: u8 = 1;
+
+    pub const DC2: u8 = 2;
+
     // The bytes of eight user characters, the bound of a fifth byte, whose top five bits are dropped, and the bytes held of one
     // that is being received.
     pub const USERS: usize = 48;
@@ -144,6 +131,9 @@ impl Lounge {
     pub const HELD: usize = 4;
 
     pub const MOST_PAIRS: usize = 32768;
+
+    // The kind of a command write; a data write has the kind 0.
+    const COMMAND: u8 = 1;
 
     // The area codes, and the marks that they give.
     pub const LUMINANCE: u8 = 0x17;
@@ -168,7 +158,7 @@ impl Lounge {
             codes: [0x20u8; Lounge::CELLS],
             marks: [0u8; Lounge::CELLS],
             cursor: 0,
-            mode: 1,
+            mode: Lounge::DC1,
             scrolling: false,
             dimming: false,
             last: 0,
@@ -179,36 +169,70 @@ impl Lounge {
         }
     }
 
+    // Cursor and mode in range.
+    fn numbers_formed(&self) -> bool
+        ensures { result ≡ numbers_formed self.now }
+    {
+        ((self.cursor as usize) < Lounge::CELLS)
+            & (Lounge::DC1 <= self.mode)
+            & (self.mode <= Lounge::DC2)
+    }
+
+    // Scroll-on only in DC2 at column 19.
+    fn scroll_formed(&self) -> bool
+        ensures { result ≡ scroll_formed self.now }
+    {
+        !self.scrolling
+            | ((self.mode == Lounge::DC2) & (self.cursor % Lounge::COLUMNS == Lounge::LAST_COLUMN))
+    }
+
     // Whether the condition is well formed.
     pub fn well_formed(self) -> bool
         ensures { result ≡ well_formed self }
     {
-        let marks = self.marks;
-        let users = self.users;
-        let held = self.held;
-        let p = self.pending;
-        numbers_formed(self)
-            & scroll_formed(self)
-            & row::up_to(Lounge::ALL_MARKS, &marks)
-            & users::are_formed(&users, self.count, Lounge::FIFTH)
-            & users::held_formed(held_of(p), &held)
-            & area_formed(p)
+        self.numbers_formed()
+            & self.scroll_formed()
+            & row::up_to(Lounge::ALL_MARKS, &self.marks)
+            & users::are_formed(&self.users, self.count, Lounge::FIFTH)
+            & users::held_formed(self.pending.held(), &self.held)
+            & self.pending.area_formed()
+    }
+
+    // What the cells of a code show.
+    fn shows(&self, code: u8) -> Shows
+        ensures { result ≡ shows_of self.now code }
+    {
+        if users::is_found(users::find(&self.users, self.count, code)) {
+            Shows::User(code)
+        } else if code < 0x20 {
+            Shows::Blank
+        } else {
+            Shows::BuiltIn(code)
+        }
+    }
+
+    // The luminance of a character with these marks.
+    fn level(&self, m: u8) -> Level
+        ensures { result ≡ level_of self.now m }
+    {
+        if self.dimming & !has_mark(Lounge::BRIGHT_MARK, m) {
+            Level::B
+        } else {
+            Level::A
+        }
     }
 }
 
-// No kind is above 1. All are looked at, as in row::up_to.
+// No kind is above 1; a byte without its pair at the end is no kind.
 pub fn kinds_formed(pairs: &[u8]) -> bool
     ensures { result ≡ kinds_formed pairs.now }
 {
-    let mut most: u8 = 0;
-    let mut i: usize = 0;
-    while 2 <= pairs.len() - i {
-        if most < pairs[i] {
-            most = pairs[i];
+    for pair in pairs.chunks_exact(2) {
+        if Lounge::COMMAND < pair[0] {
+            return false;
         }
-        i += 2;
     }
-    most <= 1
+    true
 }
 
 fn refused(n: u8, c: Lounge) -> Ran
@@ -236,43 +260,18 @@ pub fn run(c: Lounge, pairs: &[u8]) -> Ran
     if Lounge::MOST_PAIRS < pairs.len() / 2 {
         return refused(4, c);
     }
-    let mut h = head(c);
-    let mut codes = c.codes;
-    let mut marks = c.marks;
-    let mut users = c.users;
-    run_in(&mut h, &mut codes, &mut marks, &mut users, pairs);
+    let mut after = c;
+    after.run_in(pairs);
     Ran {
         refusal: 0,
-        condition: whole(h, codes, marks, users),
+        condition: after,
     }
-}
-
-fn shows_code(c: Lounge, code: u8) -> Shows
-    ensures { result ≡ shows_of c code }
-{
-    let users = c.users;
-    if users::is_found(users::find(&users, c.count, code)) {
-        return Shows::User(code);
-    }
-    if code < 0x20 {
-        return Shows::Blank;
-    }
-    Shows::BuiltIn(code)
 }
 
 fn has_mark(k: u8, m: u8) -> bool
     ensures { result ≡ has_mark k m }
 {
     m & k == k
-}
-
-fn level_of(c: Lounge, m: u8) -> Level
-    ensures { result ≡ level_of c m }
-{
-    if c.dimming & !has_mark(Lounge::BRIGHT_MARK, m) {
-        return Level::B;
-    }
-    Level::A
 }
 
 fn unseen() -> Seen
@@ -298,13 +297,11 @@ pub fn view(c: Lounge, position: u32) -> Seen
     if Lounge::CELLS <= i {
         return unseen();
     }
-    let codes = c.codes;
-    let marks = c.marks;
-    let m = marks[i];
+    let m = c.marks[i];
     Seen {
         refusal: 0,
-        shows: shows_code(c, codes[i]),
-        level: level_of(c, m),
+        shows: c.shows(c.codes[i]),
+        level: c.level(m),
         blinking: has_mark(Lounge::BLINK_MARK, m),
         underlined: has_mark(Lounge::UNDERLINE_MARK, m),
     }

@@ -1,25 +1,24 @@
-use mathlib.Core.Path.{refl, sym, ◌∙◌}
-use mathlib.Core.Logic.{inl, inr}
+use mathlib.Core.Path.{sym, ◌∙◌}
 use native.Mathlib.Omega.{arith}
-use Rattle.lounge.proofs.Turns.{kinds-turn, kinds-ended}
+use borrow.Author.Tests.{le-leb, lt-leb}
+use Rattle.lounge.proofs.Turns.{kinds-pair, kinds-few}
 use Rattle.lounge.proofs.kinds_formed.Goals as goal
-use Rattle.lounge.proofs.kinds_formed.Goals.{then-most-pairs, else-most-pairs}
 
-pub loop-i-init : goal.loop-i-init
-loop-i-init c = (refl, omega arith)
+pub returns-then-pair-gt-COMMAND : goal.returns-then-pair-gt-COMMAND
+returns-then-pair-gt-COMMAND c =
+    let i = c.loop-pair.invariant in
+    let s = c.in-Some.ensures.steps in
+    sym (sym i.3 ∙ kinds-pair c.in-Some.pair.now _ _ s.1.0 (s.1.1 ∙ i.2) ∙ rw (lt-leb _ _ c.if-pair-gt-COMMAND.true))
 
-pub loop-i-preserved : goal.loop-i-preserved
-loop-i-preserved c =
-    let a = c.args in
-    let l = c.loop-i in
-    let more = kinds-turn a.pairs.now l.i l.most c.if-most-pairs.most (omega arith) in
-    elim c.if-most-pairs.branch [
-      | then-most-pairs w ↦ (l.invariant.0 ∙ more (omega arith) (omega arith) (inr (omega arith)), omega arith)
-      | else-most-pairs w ↦ (l.invariant.0 ∙ more (omega arith) (omega arith) (inl (omega arith)), omega arith)
-    ]
+pub loop-pair-preserved : goal.loop-pair-preserved
+loop-pair-preserved c =
+    let i = c.loop-pair.invariant in
+    let s = c.in-Some.ensures.steps in
+    let e = kinds-pair c.in-Some.pair.now _ _ s.1.0 (s.1.1 ∙ i.2) ∙ rw (le-leb _ _ c.if-pair-gt-COMMAND.false) in
+    (rw s.0 i.0, tt, s.0 ∙ i.2, sym e ∙ i.3)
 
 pub returns : goal.returns
 returns c =
-    let a = c.args in
-    let l = c.loop-i in
-    sym (l.invariant.0 ∙ kinds-ended a.pairs.now l.i l.most (omega (arith, c.loop-i-test.false)))
+    let i = c.loop-pair.invariant in
+    let s = c.in-None.ensures.steps in
+    sym (sym i.3 ∙ kinds-few _ (omega (arith, s.1.0, i.2)))

@@ -1,13 +1,9 @@
 use mathlib.Core.Path.{◌≡◌}
-use mathlib.Core.Bool.{◌&&◌}
-use Prim.Native.Nat.{◌-◌, ◌≤◌}
-use lib.Dec.{leb}
-use lib.ListN.{length, drop}
+use Rattle.std.specs.Slice.Iter.{chunks_exact_rest, chunks_exact_size}
 use Rattle.lounge.specs.Run.{kinds_formed}
 use Rattle.lounge.proofs.kinds_formed.Given as goal
 
-abbrev pub invariant-loop-i : goal.invariant-loop-i
-invariant-loop-i l = (kinds_formed l.pairs ≡ (leb l.most 1 && kinds_formed (drop l.i l.pairs))) × (l.i ≤ length l.pairs)
-
-abbrev pub decreases-loop-i : goal.decreases-loop-i
-decreases-loop-i l = length l.pairs - l.i
+abbrev pub invariant-loop-pair : goal.invariant-loop-pair
+invariant-loop-pair l =
+    (goal.iterator-loop-pair).can_next l.pair-iterator × (goal.iterator-loop-pair).is_finite l.pair-iterator
+    × (chunks_exact_size l.pair-iterator ≡ 2) × (kinds_formed (chunks_exact_rest l.pair-iterator) ≡ kinds_formed l.pairs)

@@ -1,14 +1,9 @@
 use mathlib.Core.Path.{◌≡◌, sym, ap, ◌∙◌}
 use mathlib.Core.Bool.{Bool, true, ◌&&◌, and-false}
-use mathlib.Core.List.{List}
-use Prim.Native.Nat.{ℕ}
-use native.Mathlib.Omega.{arith}
 use Rattle.lounge.specs.Condition.{well_formed}
 use Rattle.lounge.specs.Run.{kinds_formed}
-use Rattle.lounge.specs.Head.{lounge_in}
-use Rattle.lounge.proofs.Stores.{head-back}
 use Rattle.lounge.proofs.Kept.{Sized}
-use Rattle.lounge.proofs.Answers.{odd, not-formed, too_many, accepted, carried}
+use Rattle.lounge.proofs.Answers.{odd, not-formed, too_many, accepted}
 use borrow.Author.Rules.{rules}
 use Rattle.lounge.proofs.run.Goals as goal
 use Rattle.lounge.proofs.run.Goals.{Else-not-kinds_formed, Else-not-well_formed, Start}
@@ -45,24 +40,8 @@ returns-then-pairs-gt-MOST_PAIRS c =
     too_many _ _ _ c.if-pairs-eq1.false (is-formed at.Else-not-well_formed) (kinds at.Else-not-kinds_formed)
     c.if-pairs-gt-MOST_PAIRS.true c.refused-then-pairs-gt-MOST_PAIRS.ensures
 
-pub run_in-requires : goal.run_in-requires
-run_in-requires c =
-    let at = goal.at.run_in-requires c in
-    let e = c.if-pairs-eq1.false in
-    let same = ap (λ (h : List ℕ). lounge_in h c.args.c.codes c.args.c.marks c.args.c.users)
-    c.head-h.ensures
-    ∙ head-back c.args.c (sized at.Start).held-4 in (
-      search rules,
-      search rules,
-      search rules,
-      search rules,
-      ap well_formed same ∙ is-formed at.Else-not-well_formed,
-      omega arith,
-    )
-
 pub returns : goal.returns
 returns c =
     let at = goal.at.returns c in
-    let s = sized at.Start in
     accepted _ _ _ c.if-pairs-eq1.false (is-formed at.Else-not-well_formed) (kinds at.Else-not-kinds_formed)
-    c.if-pairs-gt-MOST_PAIRS.false s (carried _ _ _ _ _ _ _ _ s c.head-h.ensures c.run_in.ensures c.whole.ensures)
+    c.if-pairs-gt-MOST_PAIRS.false (sized at.Start) (rw c.run_in.ensures)

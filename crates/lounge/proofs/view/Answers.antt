@@ -28,7 +28,7 @@ returns c =
     rw (
       c.has_mark-2.ensures,
       c.has_mark.ensures,
-      c.level_of.ensures,
-      c.shows_code.ensures,
+      c.level.ensures,
+      c.shows.ensures,
     )
     (rw (is-formed, le-leb _ _ in-range))

@@ -7,7 +7,7 @@ returns c =
     rw (
       c.area_formed.ensures,
       c.held_formed.ensures,
-      c.held_of.ensures,
+      c.held.ensures,
       c.are_formed.ensures,
     )
     (rw (c.up_to.ensures, c.scroll_formed.ensures, c.numbers_formed.ensures))

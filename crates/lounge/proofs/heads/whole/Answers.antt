@@ -3,4 +3,4 @@ use borrow.Author.Rules.{rules}
 use Rattle.lounge.proofs.heads.whole.Goals as goal
 
 pub returns : goal.returns
-returns c = whole-in _ _ _ _ _ (search rules) c.pending_in-pending.ensures
+returns c = whole-in _ _ _ _ _ (search rules) c.pending_in.ensures

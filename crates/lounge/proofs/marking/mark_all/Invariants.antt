@@ -1,14 +1,9 @@
 use mathlib.Core.Path.{◌≡◌}
 use mathlib.Core.List.{map, ◌++◌}
-use Prim.Native.Nat.{◌-◌, ◌≤◌}
-use lib.ListN.{length, take, drop}
+use lib.ListN.{take, drop}
 use Rattle.lounge.specs.Marks.{marked}
 use Rattle.lounge.proofs.marking.mark_all.Given as goal
 
-abbrev pub invariant-loop-i : goal.invariant-loop-i
-invariant-loop-i l =
-    (l.marks ≡ map (marked l.k) (take l.i l.initial.marks) ++ drop l.i l.initial.marks)
-    × (l.i ≤ length l.initial.marks) × (length l.marks ≡ length l.initial.marks)
-
-abbrev pub decreases-loop-i : goal.decreases-loop-i
-decreases-loop-i l = length l.initial.marks - l.i
+abbrev pub invariant-loop-m : goal.invariant-loop-m
+invariant-loop-m l =
+    l.m-items ≡ map (marked l.k) (take l.m-index l.initial.m-items) ++ drop l.m-index l.initial.m-items

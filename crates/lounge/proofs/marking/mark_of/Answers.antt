@@ -1,15 +1,15 @@
+use Rattle.laws.proofs.Tests.{tests}
 use Rattle.lounge.specs.Marks.{mark_of}
-use borrow.Author.Tests.{eq-eqb, ne_eqb}
 use Rattle.lounge.proofs.marking.mark_of.Goals as goal
 
-pub returns-then-area-eq-LUMINANCE : goal.returns-then-area-eq-LUMINANCE
+pub returns-in-23 : goal.returns-in-23
 unfolding mark_of
-returns-then-area-eq-LUMINANCE c = rw (eq-eqb _ _ c.if-area-eq-LUMINANCE.true)
+returns-in-23 c = rw c.in-23.is
 
-pub returns-then-area-eq-BLINK : goal.returns-then-area-eq-BLINK
+pub returns-in-25 : goal.returns-in-25
 unfolding mark_of
-returns-then-area-eq-BLINK c = rw (ne_eqb _ _ c.if-area-eq-LUMINANCE.false, eq-eqb _ _ c.if-area-eq-BLINK.true)
+returns-in-25 c = rw c.in-25.is
 
-pub returns : goal.returns
+pub returns-in_default : goal.returns-in_default
 unfolding mark_of
-returns c = rw (ne_eqb _ _ c.if-area-eq-LUMINANCE.false, ne_eqb _ _ c.if-area-eq-BLINK.false)
+returns-in_default c = search (tests, c.in_default)

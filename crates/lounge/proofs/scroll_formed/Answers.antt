@@ -1,7 +1,0 @@
-use mathlib.Core.Path.{refl}
-use Rattle.lounge.specs.Condition.{scroll_formed}
-use Rattle.lounge.proofs.scroll_formed.Goals as goal
-
-pub returns : goal.returns
-unfolding scroll_formed
-returns c = refl
