@@ -9,10 +9,9 @@ use lib.ListN.{length, length-append}
 use borrow.Author.Tests.{eq-eqb, ne_eqb, lt-ltb, le-ltb, eqb-false, ltb-false, not-false}
 use Rattle.laws.proofs.Tests.{both, passed, number_by}
 use Rattle.lounge.specs.declared.Lounge.{Lounge}
-use Rattle.lounge.specs.declared.Ran.{Ran}
 use Rattle.lounge.specs.Condition.{well_formed}
 use Rattle.lounge.specs.Pairs.{run_of}
-use Rattle.lounge.specs.Run.{kinds_formed, run_refusal, refused_of, accepted_of, run_answer, in_turn, RunPromise}
+use Rattle.lounge.specs.Run.{Ran, kinds_formed, run_refusal, refused_of, accepted_of, run_answer, in_turn, RunPromise}
 use Rattle.lounge.proofs.Turns.{kinds-append, run-append}
 use Rattle.lounge.proofs.Kept.{Sized, Fit, fit, formed, run-kept}
 

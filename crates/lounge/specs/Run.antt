@@ -1,9 +1,20 @@
 -- A run of pairs (document 02, W8): its refusals, its answer, and several runs in turn.
-use Rattle.std.specs.Prelude.{ℕ, ◌/◌, ◌%◌, ◌≡◌, List, [], ◌∷◌, Bool, true, cond, not, ◌&&◌, length, eqb, ltb, leb}
+use Rattle.std.specs.Prelude.{ℕ, Result, Ok, Err, ◌/◌, ◌%◌, ◌≡◌, List, [], ◌∷◌, Bool, true, cond, not, ◌&&◌, length, eqb, ltb, leb}
+use Rattle.refusals.specs.declared.Refusal.{Refusal}
+use Rattle.refusals.specs.Refusals.{number_of}
 use Rattle.lounge.specs.declared.Lounge.{Lounge}
-use Rattle.lounge.specs.declared.Ran.{Ran}
 use Rattle.lounge.specs.Condition.{well_formed}
 use Rattle.lounge.specs.Pairs.{run_of}
+
+-- a run's answer: a refusal number, 0 when accepted, and the condition after it
+pub record Ran : Type 0 where
+  pub refusal : ℕ
+  pub condition : Lounge
+
+-- what the code answers, in the paper's words: a refused run returns the condition c that it got
+abbrev pub ran : Lounge → Result Lounge Refusal → Ran
+ran c (Ok after) = record { refusal = 0; condition = after }
+ran c (Err refusal) = record { refusal = number_of refusal; condition = c }
 
 -- no kind is above 1
 unfoldable pub kinds_formed : List ℕ → Bool

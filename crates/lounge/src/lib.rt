@@ -3,9 +3,12 @@
 
 ghost use Rattle.std.specs.Prelude.{◌≡◌};
 ghost use Rattle.lounge.specs.Condition.{held_of, is_area, area_formed, numbers_formed, scroll_formed, well_formed, reset_of};
-ghost use Rattle.lounge.specs.Run.{kinds_formed, refused_of, RunPromise};
-ghost use Rattle.lounge.specs.Shows.{shows_of, level_of, unseen_of, view_answer};
+ghost use Rattle.lounge.specs.Run.{kinds_formed, ran, RunPromise};
+ghost use Rattle.lounge.specs.Shows.{shows_of, level_of, seen, view_answer};
 ghost use Rattle.lounge.specs.Marks.{has_mark};
+
+use refusals::Refusal;
+use users::UserList;
 
 mod cells;
 mod controls;
@@ -47,13 +50,6 @@ pub struct Lounge {
     pub held: [u8; Lounge::HELD],
 }
 
-// A run's answer: a refusal number, 0 when accepted, and the condition after it.
-#[derive(Clone, Copy)]
-pub struct Ran {
-    pub refusal: u8,
-    pub condition: Lounge,
-}
-
 // What a cell shows: nothing, the user character of a code, or a built-in code.
 #[derive(Clone, Copy)]
 pub enum Shows {
@@ -69,10 +65,9 @@ pub enum Level {
     B,
 }
 
-// What is seen of a cell, with a refusal number, 0 when accepted.
+// What is seen of a cell.
 #[derive(Clone, Copy)]
 pub struct Seen {
-    pub refusal: u8,
     pub shows: Shows,
     pub level: Level,
     pub blinking: bool,
@@ -193,16 +188,26 @@ impl Lounge {
         self.numbers_formed()
             & self.scroll_formed()
             & row::up_to(Lounge::ALL_MARKS, &self.marks)
-            & users::are_formed(&self.users, self.count, Lounge::FIFTH)
+            & self.user_list().are_formed(Lounge::FIFTH)
             & users::held_formed(self.pending.held(), &self.held)
             & self.pending.area_formed()
+    }
+
+    // The user characters.
+    pub(crate) fn user_list(&self) -> UserList
+        ensures { (result.bytes.now ≡ self.now.users) × (result.count ≡ self.now.count) }
+    {
+        UserList {
+            bytes: &self.users,
+            count: self.count,
+        }
     }
 
     // What the cells of a code show.
     fn shows(&self, code: u8) -> Shows
         ensures { result ≡ shows_of self.now code }
     {
-        if users::is_found(users::find(&self.users, self.count, code)) {
+        if self.user_list().is_user(code) {
             Shows::User(code)
         } else if code < 0x20 {
             Shows::Blank
@@ -235,37 +240,26 @@ pub fn kinds_formed(pairs: &[u8]) -> bool
     true
 }
 
-fn refused(n: u8, c: Lounge) -> Ran
-    ensures { result ≡ refused_of n c }
-{
-    Ran {
-        refusal: n,
-        condition: c,
-    }
-}
-
-// The pairs are carried out in turn: a kind, 0 for a data or 1 for a command write, and the byte written.
-pub fn run(c: Lounge, pairs: &[u8]) -> Ran
-    ensures { RunPromise c pairs.now result }
+// The pairs are carried out in turn: a kind, 0 for a data or 1 for a command write, and the byte written. It answers the condition
+// after them.
+pub fn run(c: Lounge, pairs: &[u8]) -> Result<Lounge, Refusal>
+    ensures { RunPromise c pairs.now (ran c result) }
 {
     if pairs.len() % 2 == 1 {
-        return refused(1, c);
+        return Err(Refusal::WrongLength);
     }
     if !c.well_formed() {
-        return refused(3, c);
+        return Err(Refusal::OutOfRange);
     }
     if !kinds_formed(pairs) {
-        return refused(3, c);
+        return Err(Refusal::OutOfRange);
     }
     if Lounge::MOST_PAIRS < pairs.len() / 2 {
-        return refused(4, c);
+        return Err(Refusal::TooLong);
     }
     let mut after = c;
     after.run_in(pairs);
-    Ran {
-        refusal: 0,
-        condition: after,
-    }
+    Ok(after)
 }
 
 fn has_mark(k: u8, m: u8) -> bool
@@ -274,35 +268,22 @@ fn has_mark(k: u8, m: u8) -> bool
     m & k == k
 }
 
-fn unseen() -> Seen
-    ensures { result ≡ unseen_of }
-{
-    Seen {
-        refusal: 3,
-        shows: Shows::Blank,
-        level: Level::A,
-        blinking: false,
-        underlined: false,
-    }
-}
-
 // What is seen of the cell at a position.
-pub fn view(c: Lounge, position: u32) -> Seen
-    ensures { result ≡ view_answer c position }
+pub fn view(c: Lounge, position: u32) -> Result<Seen, Refusal>
+    ensures { seen result ≡ view_answer c position }
 {
     if !c.well_formed() {
-        return unseen();
+        return Err(Refusal::OutOfRange);
     }
     let i = position as usize;
     if Lounge::CELLS <= i {
-        return unseen();
+        return Err(Refusal::OutOfRange);
     }
     let m = c.marks[i];
-    Seen {
-        refusal: 0,
+    Ok(Seen {
         shows: c.shows(c.codes[i]),
         level: c.level(m),
         blinking: has_mark(Lounge::BLINK_MARK, m),
         underlined: has_mark(Lounge::UNDERLINE_MARK, m),
-    }
+    })
 }

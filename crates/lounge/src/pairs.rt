@@ -10,7 +10,7 @@ impl Lounge {
     fn is_char(&self, b: u8) -> bool
         ensures { result ≡ is_char self.now b }
     {
-        (0x20 <= b) || users::is_found(users::find(&self.users, self.count, b))
+        (0x20 <= b) || self.user_list().is_user(b)
     }
 
     // A data write.

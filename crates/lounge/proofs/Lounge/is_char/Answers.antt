@@ -13,5 +13,7 @@ returns-then-b-ge32 c =
     rw (le-leb _ _ c.if-b-ge32.true) (sym (or-true user))
 
 pub returns-else-b-ge32 : goal.returns-else-b-ge32
-unfolding is_char is_user
-returns-else-b-ge32 c = rw (c.is_found.ensures, c.find.ensures, lt-leb _ _ c.if-b-ge32.false) (sym (or-false _))
+unfolding is_char
+returns-else-b-ge32 c =
+    let u = c.user_list.ensures in
+    rw (c.is_user.ensures, u.0, u.1, lt-leb _ _ c.if-b-ge32.false) (sym (or-false _))
