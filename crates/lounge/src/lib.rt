@@ -30,11 +30,12 @@ pub enum Pending {
 
 #[derive(Clone, Copy)]
 pub struct Lounge {
-    // The 40 characters: a code each, and its marks: 1 bright, 2 blink, 4 underline, added.
+    // The 40 characters: a code each, and its marks: 1 bright, 2 blink, 4 underline, added. (One byte for each, because `well_formed`
+    // speaks of marks above 7 too, and a loop over bytes is compiled to take many at a time.)
     pub codes: [u8; Lounge::CELLS],
     pub marks: [u8; Lounge::CELLS],
     pub cursor: u8,
-    // 1 or 2: DC1, DC2.
+    // 1 or 2: DC1, DC2. (A number, because `well_formed` speaks of conditions in no mode too.)
     pub mode: u8,
     // Scroll-on.
     pub scrolling: bool,
@@ -42,7 +43,8 @@ pub struct Lounge {
     pub dimming: bool,
     // The readable last byte.
     pub last: u8,
-    // The user characters, in places of six bytes, oldest first, and how many there are.
+    // The user characters, in places of six bytes, oldest first, and how many there are. (Two public fields, by which the theorems
+    // name them; `user_list` has both.)
     pub users: [u8; Lounge::USERS],
     pub count: u8,
     pub pending: Pending,

@@ -1,18 +1,36 @@
 -- What each way through the entry answers and leaves.
 use Prim.Native.Nat.{ℕ}
-use mathlib.Core.Path.{◌≡◌, sym, ap, ◌∙◌}
-use mathlib.Core.Bool.{true, false}
+use mathlib.Core.Path.{◌≡◌, refl, sym, ap, ◌∙◌}
+use mathlib.Core.Bool.{Bool, true, false, cond}
 use mathlib.Core.List.{List}
 use native.Mathlib.Omega.{arith}
 use lib.Dec.{eqb}
 use lib.ListN.{length}
 use borrow.Author.Tests.{eq-eqb, ne_eqb, eqb-true}
 use Rattle.laws.proofs.Tests.{both}
+use Rattle.std.specs.Prelude.{Ok, Err}
+use Rattle.refusals.specs.declared.Refusal.{Refusal}
+use Rattle.refusals.specs.declared.Refusal.TheVariants.{WrongLength, Damaged, OutOfRange, TooLong, TallyFull, HalfReceived}
+use Rattle.refusals.specs.declared.Refusal.TheVariants.{WrongMode, UserOnMove, NoCharacter, NoRoom, Lost}
+use Rattle.refusals.specs.Refusals.{number_of}
 use Rattle.lounge.specs.declared.Lounge.{Lounge}
-use Rattle.lounge.specs.declared.Ran.{Ran}
 use Rattle.lounge.specs.Head.{head_of, lounge_in}
-use Rattle.lounge.specs.Run.{run_answer}
-use Rattle.lounge_entry.specs.Entry.{sizes_right, refusal_in, RunIn}
+use Rattle.lounge.specs.Run.{Ran, run_answer}
+use Rattle.lounge_entry.specs.Entry.{sizes_right, condition_in, refusal_in, RunIn}
+
+-- a refusal has a number
+pub number-some : (e : Refusal) → number_of e ≡ 0 → ⊥
+number-some WrongLength z = omega arith
+number-some Damaged z = omega arith
+number-some OutOfRange z = omega arith
+number-some TooLong z = omega arith
+number-some TallyFull z = omega arith
+number-some HalfReceived z = omega arith
+number-some WrongMode z = omega arith
+number-some UserOnMove z = omega arith
+number-some NoCharacter z = omega arith
+number-some NoRoom z = omega arith
+number-some Lost z = omega arith
 
 module _ (h codes marks us : List ℕ) where
   pub sizes : sizes_right h codes marks us ≡ true
@@ -23,6 +41,28 @@ module _ (h codes marks us : List ℕ) where
       let p₂ = both _ (eqb (length marks) 40) p₃.0 in
       let p₁ = both (eqb (length h) 13) (eqb (length codes) 40) p₂.0 in
       (eqb-true _ _ p₁.0, eqb-true _ _ p₁.1, eqb-true _ _ p₂.1, eqb-true _ _ p₃.1)
+
+  -- the condition that stands in the slices
+  pub stands : (c : Lounge) → Ok c ≡ condition_in h codes marks us
+      → (sizes_right h codes marks us ≡ true) × (c ≡ lounge_in h codes marks us)
+  unfolding condition_in
+  stands c e = go (sizes_right h codes marks us) e refl
+    where
+      go : (t : Bool) → Ok c ≡ cond t (Ok (lounge_in h codes marks us)) (Err WrongLength) → sizes_right h codes marks us ≡ t
+          → (sizes_right h codes marks us ≡ true) × (c ≡ lounge_in h codes marks us)
+      go true f s = (s, cc)
+      go false f s = let z : ⊥ = cc in absurd z
+
+  -- none does
+  pub no-sizes : (e : Refusal) → Err e ≡ condition_in h codes marks us
+      → (sizes_right h codes marks us ≡ false) × (e ≡ WrongLength)
+  unfolding condition_in
+  no-sizes e f = go (sizes_right h codes marks us) f refl
+    where
+      go : (t : Bool) → Err e ≡ cond t (Ok (lounge_in h codes marks us)) (Err WrongLength) → sizes_right h codes marks us ≡ t
+          → (sizes_right h codes marks us ≡ false) × (e ≡ WrongLength)
+      go true f s = let z : ⊥ = cc in absurd z
+      go false f s = (s, cc)
 
   module _ (bs : List ℕ) where
     -- nothing changes where it is refused

@@ -1,17 +1,22 @@
 -- What the tests' entry answers and leaves: a run and a view of a condition that stands in four slices.
-use Rattle.std.specs.Prelude.{ℕ, ◌+◌, ◌≡◌, Bool, cond, ◌&&◌, List, length, eqb}
+use Rattle.std.specs.Prelude.{ℕ, Result, Ok, Err, ◌+◌, ◌≡◌, Bool, false, cond, ◌&&◌, List, length, eqb}
+use Rattle.refusals.specs.declared.Refusal.{Refusal}
+use Rattle.refusals.specs.declared.Refusal.TheVariants.{WrongLength}
 use Rattle.lounge.specs.declared.Lounge.{Lounge}
 use Rattle.lounge.specs.declared.Shows.{Shows}
 use Rattle.lounge.specs.declared.Shows.TheVariants.{Blank, User, BuiltIn}
 use Rattle.lounge.specs.declared.Level.{Level}
 use Rattle.lounge.specs.declared.Level.TheVariants.{A, B}
-use Rattle.lounge.specs.declared.Seen.{Seen}
 use Rattle.lounge.specs.Head.{head_of, lounge_in}
 use Rattle.lounge.specs.Run.{run_answer}
-use Rattle.lounge.specs.Shows.{view_answer}
+use Rattle.lounge.specs.Shows.{Seen, view_answer}
 
 unfoldable pub sizes_right : List ℕ → List ℕ → List ℕ → List ℕ → Bool
 sizes_right h codes marks us = eqb (length h) 13 && eqb (length codes) 40 && eqb (length marks) 40 && eqb (length us) 48
+
+-- the condition that stands in four slices
+unfoldable pub condition_in : List ℕ → List ℕ → List ℕ → List ℕ → Result Lounge Refusal
+condition_in h codes marks us = cond (sizes_right h codes marks us) (Ok (lounge_in h codes marks us)) (Err WrongLength)
 
 -- 1 for a slice of another length, else what the run is refused by
 unfoldable pub refusal_in : List ℕ → List ℕ → List ℕ → List ℕ → List ℕ → ℕ
@@ -46,6 +51,12 @@ seen_number s =
     cond (eqb s.refusal 0)
     (shows_number s.shows + level_number s.level + cond s.blinking 8192 0 + cond s.underlined 16384 0)
     (65536 + s.refusal)
+
+-- what is seen of a cell of it; 1 for a slice of another length
+unfoldable pub seen_in : List ℕ → List ℕ → List ℕ → List ℕ → ℕ → Seen
+seen_in h codes marks us p =
+    cond (sizes_right h codes marks us) (view_answer (lounge_in h codes marks us) p)
+    (record { refusal = 1; shows = Blank; level = A; blinking = false; underlined = false })
 
 unfoldable pub view_number : List ℕ → List ℕ → List ℕ → List ℕ → ℕ → ℕ
 view_number h codes marks us p =

@@ -3,13 +3,13 @@
 #![tactic(auto)]
 
 ghost use Rattle.std.specs.Prelude.{◌≡◌, cond, ◌≤◌, length};
-ghost use Rattle.lounge.specs.Head.{head_of, lounge_in};
-ghost use Rattle.lounge_entry.specs.Entry.{sizes_right, shows_number, level_number, seen_number, view_number, RunIn};
+ghost use Rattle.refusals.specs.Refusals.{refusal_in};
+ghost use Rattle.lounge.specs.Head.{head_of};
+ghost use Rattle.lounge.specs.Shows.{seen};
+ghost use Rattle.lounge_entry.specs.Entry.{sizes_right, condition_in, seen_in, shows_number, level_number, seen_number, view_number, RunIn};
 
 use lounge::{Level, Lounge, Seen, Shows, heads};
-
-// A slice of another length than the part that it should be.
-const WRONG_LENGTH: u32 = 1;
+use refusals::Refusal;
 
 // What a refused view is answered by, with its number added.
 const REFUSED: u32 = 65536;
@@ -23,20 +23,22 @@ fn sizes_right(head: &[u8], codes: &[u8], marks: &[u8], users: &[u8]) -> bool
         & (users.len() == Lounge::USERS)
 }
 
-// The condition that stands in the four slices.
-fn condition_in(head: &[u8], codes: &[u8], marks: &[u8], users: &[u8]) -> Lounge
-    requires { (length head.now ≡ 13) × (length codes.now ≡ 40) × (length marks.now ≡ 40) × (length users.now ≡ 48) }
-    ensures { result ≡ lounge_in head.now codes.now marks.now users.now }
+// The condition that stands in the four slices, if each has the length of its part.
+fn condition_in(head: &[u8], codes: &[u8], marks: &[u8], users: &[u8]) -> Result<Lounge, Refusal>
+    ensures { result ≡ condition_in head.now codes.now marks.now users.now }
 {
-    let mut h = [0u8; heads::BYTES];
-    let mut c = [0u8; Lounge::CELLS];
-    let mut m = [0u8; Lounge::CELLS];
-    let mut u = [0u8; Lounge::USERS];
-    row::copy(&mut h, head);
-    row::copy(&mut c, codes);
-    row::copy(&mut m, marks);
-    row::copy(&mut u, users);
-    heads::whole(h, c, m, u)
+    if !sizes_right(head, codes, marks, users) {
+        return Err(Refusal::WrongLength);
+    }
+    let mut h = [0; heads::BYTES];
+    let mut c = [0; Lounge::CELLS];
+    let mut m = [0; Lounge::CELLS];
+    let mut u = [0; Lounge::USERS];
+    h.copy_from_slice(head);
+    c.copy_from_slice(codes);
+    m.copy_from_slice(marks);
+    u.copy_from_slice(users);
+    Ok(heads::whole(h, c, m, u))
 }
 
 // The four slices hold the condition.
@@ -45,14 +47,26 @@ fn put(head: &mut [u8], codes: &mut [u8], marks: &mut [u8], users: &mut [u8], c:
     ensures { (head.new ≡ head_of c) × (codes.new ≡ c.codes) × (marks.new ≡ c.marks)
         × (users.new ≡ c.users) }
 {
-    let first = heads::head(c);
-    let second = c.codes;
-    let third = c.marks;
-    let fourth = c.users;
-    row::copy(head, &first);
-    row::copy(codes, &second);
-    row::copy(marks, &third);
-    row::copy(users, &fourth);
+    head.copy_from_slice(&heads::head(c));
+    codes.copy_from_slice(&c.codes);
+    marks.copy_from_slice(&c.marks);
+    users.copy_from_slice(&c.users);
+}
+
+fn run(
+    head: &mut [u8],
+    codes: &mut [u8],
+    marks: &mut [u8],
+    users: &mut [u8],
+    pairs: &[u8],
+) -> Result<(), Refusal>
+    ensures { RunIn head.old codes.old marks.old users.old pairs.now
+        head.new codes.new marks.new users.new (refusal_in result) }
+{
+    let c = condition_in(head, codes, marks, users)?;
+    let after = lounge::run(c, pairs)?;
+    put(head, codes, marks, users, after);
+    Ok(())
 }
 
 // A run: its refusal number, 0 when accepted. The slices hold the condition after it.
@@ -67,15 +81,10 @@ pub extern "C" fn lounge_run(
     ensures { RunIn head.old codes.old marks.old users.old pairs.now
         head.new codes.new marks.new users.new result }
 {
-    if !sizes_right(head, codes, marks, users) {
-        return WRONG_LENGTH;
+    match run(head, codes, marks, users, pairs) {
+        Ok(()) => 0,
+        Err(refusal) => u32::from(refusal),
     }
-    let ran = lounge::run(condition_in(head, codes, marks, users), pairs);
-    if ran.refusal != 0 {
-        return ran.refusal as u32;
-    }
-    put(head, codes, marks, users, ran.condition);
-    0
 }
 
 fn shows_number(s: Shows) -> u32
@@ -83,8 +92,8 @@ fn shows_number(s: Shows) -> u32
 {
     match s {
         Shows::Blank => 0,
-        Shows::User(code) => 256 + (code as u32),
-        Shows::BuiltIn(code) => 768 + (code as u32),
+        Shows::User(code) => 256 + u32::from(code),
+        Shows::BuiltIn(code) => 768 + u32::from(code),
     }
 }
 
@@ -103,15 +112,28 @@ fn bit(on: bool, n: u32) -> u32
     if on { n } else { 0 }
 }
 
-fn seen_number(s: Seen) -> u32
-    ensures { result ≡ seen_number s }
+fn seen_number(answer: Result<Seen, Refusal>) -> u32
+    ensures { result ≡ seen_number (seen answer) }
 {
-    if s.refusal != 0 {
-        return REFUSED + (s.refusal as u32);
+    match answer {
+        Ok(s) => shows_number(s.shows)
+            + level_number(s.level)
+            + bit(s.blinking, 8192)
+            + bit(s.underlined, 16384),
+        Err(refusal) => REFUSED + u32::from(refusal),
     }
-    let shows = s.shows;
-    let level = s.level;
-    shows_number(shows) + level_number(level) + bit(s.blinking, 8192) + bit(s.underlined, 16384)
+}
+
+fn view(
+    head: &[u8],
+    codes: &[u8],
+    marks: &[u8],
+    users: &[u8],
+    position: u32,
+) -> Result<Seen, Refusal>
+    ensures { seen result ≡ seen_in head.now codes.now marks.now users.now position }
+{
+    lounge::view(condition_in(head, codes, marks, users)?, position)
 }
 
 // What is seen of the cell at a position, as a number.
@@ -126,8 +148,5 @@ pub extern "C" fn lounge_view(
     ensures { result
         ≡ view_number head.now codes.now marks.now users.now position }
 {
-    if !sizes_right(head, codes, marks, users) {
-        return REFUSED + WRONG_LENGTH;
-    }
-    seen_number(lounge::view(condition_in(head, codes, marks, users), position))
+    seen_number(view(head, codes, marks, users, position))
 }

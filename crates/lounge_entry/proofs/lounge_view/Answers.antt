@@ -1,17 +1,10 @@
-use mathlib.Core.Path.{sym, ◌∙◌}
-use Rattle.lounge_entry.specs.Entry.{view_number}
-use Rattle.lounge_entry.proofs.Answers.{sizes}
+use Rattle.laws.proofs.Tests.{by_cases}
+use Rattle.lounge_entry.specs.Entry.{sizes_right, view_number, seen_in, seen_number}
 use Rattle.lounge_entry.proofs.lounge_view.Goals as goal
 
-pub returns-then-not-sizes_right : goal.returns-then-not-sizes_right
-unfolding view_number
-returns-then-not-sizes_right c = rw (sym c.sizes_right.ensures ∙ c.if-not-sizes_right.true)
-
-pub condition_in-requires : goal.condition_in-requires
-condition_in-requires c = sizes _ _ _ _ (sym c.sizes_right.ensures ∙ c.if-not-sizes_right.false)
-
 pub returns : goal.returns
-unfolding view_number
+unfolding view_number seen_in seen_number
 returns c =
-    let s = sym c.sizes_right.ensures ∙ c.if-not-sizes_right.false in
-    c.seen_number.ensures ∙ rw (c.view.ensures, c.condition_in.ensures, s)
+    let a = c.args in
+    rw (c.seen_number.ensures, c.view.ensures)
+    (by_cases (sizes_right a.head.now a.codes.now a.marks.now a.users.now) (λ e. rw e) (λ e. rw e))

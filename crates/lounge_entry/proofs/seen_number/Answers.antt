@@ -1,18 +1,19 @@
+use borrow.Author.Tests.{ne_eqb}
 use Rattle.lounge_entry.specs.Entry.{seen_number}
-use borrow.Author.Tests.{eq-eqb, ne_eqb}
+use Rattle.lounge_entry.proofs.Answers.{number-some}
 use Rattle.lounge_entry.proofs.seen_number.Goals as goal
 
-pub returns-then-s-ne0 : goal.returns-then-s-ne0
+pub returns-in-Ok : goal.returns-in-Ok
 unfolding seen_number
-returns-then-s-ne0 c = rw (ne_eqb _ _ c.if-s-ne0.true)
-
-pub returns : goal.returns
-unfolding seen_number
-returns c =
+returns-in-Ok c =
     rw (
-      c.bit-2.ensures.0,
-      c.bit.ensures.0,
-      c.level_number.ensures.0,
+      c.in-Ok.is,
       c.shows_number.ensures.0,
+      c.level_number.ensures.0,
+      c.bit.ensures.0,
+      c.bit-in-Ok.ensures.0,
     )
-    (rw (eq-eqb _ _ c.if-s-ne0.false))
+
+pub returns-in-Err : goal.returns-in-Err
+unfolding seen_number
+returns-in-Err c = rw (c.in-Err.is, c.from.ensures, ne_eqb _ 0 (number-some c.in-Err.refusal))
