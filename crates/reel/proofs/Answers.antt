@@ -10,8 +10,8 @@ use Rattle.condition.specs.Bytes.{run_of}
 use Rattle.condition.proofs.Good.{Sized, run-sized}
 use Rattle.planner.specs.Plan.{at_start}
 use Rattle.planner.proofs.Refusals.{plan-delivers}
-use Rattle.reel.specs.declared.Stop.{Stop}
-use Rattle.reel.specs.declared.Reeled.{Reeled}
+use Rattle.reel.specs.Reel.{Stop}
+use Rattle.reel.specs.Reel.{Reeled}
 use Rattle.reel.specs.Reel.{Picture, pictures_of, plan_for, plans_of, first_refused, stop_of, written_by, lengths_of}
 use Rattle.reel.specs.Reel.{reeled_by, refused_at, PicturesInTurn, Promise, Reels}
 use Rattle.reel.proofs.Turns.{first_taken, unrefused}

@@ -8,16 +8,19 @@ use native.Mathlib.Numerals.{add-one}
 use lib.ListN.{length, get_or, take, drop, set, replicate, length-append, length-drop, length-map}
 use lib.Seq.{sets, length-sets}
 use Rattle.laws.proofs.Lists.{tail-part, part_length, drop-replicate, sets-append}
+use Rattle.std.specs.Prelude.{Result, Ok, Err}
+use Rattle.std.specs.Result.{IsOk}
+use borrow.Author.Rules.{rules}
+use Rattle.refusals.specs.declared.Refusal.{Refusal}
 use Rattle.condition.specs.declared.Condition.{Condition}
 use Rattle.condition.specs.Bytes.{run_of}
 use Rattle.condition.specs.Steps.{either_start}
-use Rattle.planner.specs.declared.Planned.{Planned}
 use Rattle.planner.specs.Plan.{at_start, pictured, Delivers}
-use Rattle.planner.specs.Answer.{Plans}
-use Rattle.planner.proofs.Refusals.{with-room, told}
+use Rattle.planner.specs.Answer.{Planned, planned, Plans}
+use Rattle.planner.proofs.Refusals.{numbered, with-room, told}
 use Rattle.planner.proofs.Putting.{put-behind, put_front}
 use Rattle.reel.specs.Reel.{pictures_of, plan_for, refusal_for, plans_of, first_refused, stop_of, lengths_of, reeled_by}
-use Rattle.reel.specs.declared.Stop.{Stop}
+use Rattle.reel.specs.Reel.{Stop}
 use Rattle.reel.proofs.Turns.{picture_at, next-picture, no-picture, first_taken, Fit, unrefused}
 
 -- lengths stored over zeros
@@ -26,6 +29,11 @@ unfolding lengths_of
 lengths-stored plans h =
     put_front (replicate 64 0) (map length plans) (omega (arith, length-map plans length))
     ∙ rw (length-map plans length) (ap (λ (zs : List ℕ). map length plans ++ zs) (drop-replicate (length plans) 64 0 h))
+
+-- an answer that is not refused has a length
+pub accepted-ok : (r : Result ℕ Refusal) → (planned r).refusal ≡ 0 → IsOk r
+accepted-ok (Ok n) e = search rules
+accepted-ok (Err r) e = absurd (numbered r e)
 
 -- The loop ------------------------------------------------------------------------------------------------------------------------
 
@@ -87,26 +95,30 @@ module _ (c : Condition) (codes cursors out₀ out lengths : List ℕ) (left : C
           let t = first_taken k left _ _ (rw (next-picture codes cursors k h) at v.none-refused) in
           (t.0, rw (← add-one k) at t.1)
 
-      planned : (p.length ≡ length bytes) × (part ≡ at_start bytes (take (length out - at) (drop at out)))
+      room : 44 ≤ length (take (length out - at) (drop at out))
+      room = rw (tail-part out at, length-drop at out) (omega (arith, v.most, v.given.room-44, same-long))
+
+      put : (p.length ≡ length bytes) × (part ≡ at_start bytes (take (length out - at) (drop at out)))
           × Delivers (either_start false) left (take 40 (drop (k * 40) codes)) (get_or cursors k 0) bytes
-      planned =
-          let room : 44 ≤ length (take (length out - at) (drop at out)) =
-          rw (tail-part out at, length-drop at out) (omega (arith, v.most, v.given.room-44, same-long)) in
-          told _ _ _ _ _ _ (with-room left _ (get_or cursors k 0) _ room ∙ taken.0) (rw w at q)
+      put = told _ _ _ _ _ _ (with-room left _ (get_or cursors k 0) _ room ∙ taken.0) (rw w at q)
+
+      pub taken-on : p.refusal ≡ 0
+      taken-on =
+          ap (λ (r : Planned). r.refusal) q.answer ∙ with-room left wanted (get_or cursors k 0) _ room ∙ rw w taken.0
 
       pub plan-most : p.length ≤ 44
-      plan-most = omega (arith, planned.0, planned.2.most)
+      plan-most = omega (arith, put.0, put.2.most)
 
       pub put-turn : (next : Condition) → next ≡ pictured c wanted (get_or cursors k 0)
           → Putting c codes cursors out₀ (take at out ++ (part ++ drop (length out - at) (drop at out)))
           (set lengths k p.length) next (at + p.length) (k + 1)
       unfolding plans_of flatten
       put-turn next e =
-          let leaves : next ≡ run_of left bytes = rw w at (e ∙ v.like-start wanted (get_or cursors k 0)) ∙ sym planned.2.gives in
+          let leaves : next ≡ run_of left bytes = rw w at (e ∙ v.like-start wanted (get_or cursors k 0)) ∙ sym put.2.gives in
           let plans : plans_from left codes cursors k ≡ bytes ∷ plans_from next codes cursors (k + 1) =
           rw (next-picture codes cursors k h, leaves) in
-          let fits : at + length bytes ≤ length out = omega (arith, v.most, v.given.room-44, same-long, planned.2.most) in
-          let whole = put-behind out part at bytes fits planned.1 in
+          let fits : at + length bytes ≤ length out = omega (arith, v.most, v.given.room-44, same-long, put.2.most) in
+          let whole = put-behind out part at bytes fits put.1 in
           record {
             given = v.given;
             inside = omega arith;
@@ -114,9 +126,9 @@ module _ (c : Condition) (codes cursors out₀ out lengths : List ℕ) (left : C
             like-start = λ u a. ap (λ (d : Condition). pictured d u a) (sym e);
             none-refused = rw leaves taken.1;
             turns = v.turns ∙ rw plans (omega arith);
-            end = v.end ∙ rw (plans, length-append bytes _, planned.0) (omega arith);
-            laid = v.laid ∙ rw (plans, sets-append out at bytes _, whole, planned.0);
-            kept = v.kept ∙ rw (plans, planned.0, add-one k);
+            end = v.end ∙ rw (plans, length-append bytes _, put.0) (omega arith);
+            laid = v.laid ∙ rw (plans, sets-append out at bytes _, whole, put.0);
+            kept = v.kept ∙ rw (plans, put.0, add-one k);
           }
 
   pub put-end : length cursors ≤ k → (stop : Stop)

@@ -16,7 +16,7 @@ use Rattle.condition.specs.Bytes.{run_of}
 use Rattle.condition.proofs.Good.{Sized, run-sized}
 use Rattle.planner.specs.Answer.{plan_refusal}
 use Rattle.planner.proofs.Refusals.{leaves, left-alike}
-use Rattle.reel.specs.declared.Stop.{Stop}
+use Rattle.reel.specs.Reel.{Stop}
 use Rattle.reel.specs.Reel.{Picture, pictures_of, plan_for, refusal_for, matching, naming64, first_refused, whole_refusal, stop_of}
 
 -- Lengths -------------------------------------------------------------------------------------------------------------------------

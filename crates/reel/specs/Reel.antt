@@ -1,7 +1,7 @@
 -- A reel of pictures (document 02, W5): up to 64 pictures in turn, each with its asked cursor, from one start condition into one
 -- output buffer. One-font planner only.
 use Rattle.std.specs.Prelude.{ℕ, suc, ◌-◌, ◌*◌, ◌≡◌, Bool, false, cond, not, ◌&&◌, length, get_or, take, drop, replicate, eqb, ltb}
-use Rattle.std.specs.Prelude.{leb}
+use Rattle.std.specs.Prelude.{leb, Result, Ok, Err}
 use mathlib.Core.List.{List, [], ◌∷◌, ◌++◌, map, flatten}
 use Rattle.condition.specs.declared.Condition.{Condition}
 use Rattle.condition.specs.Condition.{well_formed}
@@ -10,8 +10,9 @@ use Rattle.condition.specs.Steps.{either_start}
 use Rattle.planner.specs.Plan.{at_start, Delivers}
 use Rattle.planner.specs.Clear.{either_plan}
 use Rattle.planner.specs.Answer.{plan_refusal}
-use Rattle.reel.specs.declared.Stop.{Stop}
-use Rattle.reel.specs.declared.Reeled.{Reeled}
+use Rattle.refusals.specs.Refusals.{number_of}
+use Rattle.reel.specs.declared.Stop.{Stop as StopTold}
+use Rattle.reel.specs.declared.Reeled.{Reeled as ReeledTold}
 
 -- One at a time -------------------------------------------------------------------------------------------------------------------
 
@@ -39,6 +40,11 @@ plans_of c [] = []
 plans_of c (p ∷ ps) = plan_for c p ∷ plans_of (run_of c (plan_for c p)) ps
 
 -- Refusals ------------------------------------------------------------------------------------------------------------------------
+
+-- where a reel is refused: the picture, and its refusal number, 0 for none
+pub record Stop : Type 0 where
+  pub picture : ℕ
+  pub refusal : ℕ
 
 -- what is refused of the whole call, or of none, names 64
 abbrev pub naming64 : ℕ → Stop
@@ -72,6 +78,12 @@ stop_of c codes cursors room =
 
 -- Answers -------------------------------------------------------------------------------------------------------------------------
 
+-- what a reel answers: where it is refused; all its bytes together, and the length of each plan, all 0 when refused
+pub record Reeled : Type 0 where
+  pub stop : Stop
+  pub bytes : ℕ
+  pub lengths : List ℕ
+
 -- the plans that are written: if any picture would be refused, none
 unfoldable pub written_by : Stop → List (List ℕ) → List (List ℕ)
 written_by stop plans = cond (eqb stop.refusal 0) plans []
@@ -84,9 +96,21 @@ lengths_of plans = map length plans ++ replicate (64 - length plans) 0
 abbrev pub reeled_by : Stop → List (List ℕ) → Reeled
 reeled_by stop written = record { stop = stop; bytes = length (flatten written); lengths = lengths_of written }
 
--- that is, refused: no bytes, and all lengths are 0 (for the function that makes it)
+-- that is, refused: no bytes, and all lengths are 0
 abbrev pub refused_at : Stop → Reeled
 refused_at stop = record { stop = stop; bytes = 0; lengths = replicate 64 0 }
+
+-- what the code answers, in these words: where it is refused, and whether it is; where nothing is, 64 is named, and 0
+abbrev pub stopped : StopTold → Stop
+stopped stop = record { picture = stop.picture; refusal = number_of stop.refusal }
+
+abbrev pub stop_in : {A : Type 0} → Result A StopTold → Stop
+stop_in (Ok x) = naming64 0
+stop_in (Err stop) = stopped stop
+
+abbrev pub reeled : Result ReeledTold StopTold → Reeled
+reeled (Ok r) = record { stop = naming64 0; bytes = r.bytes; lengths = r.lengths }
+reeled (Err stop) = refused_at (stopped stop)
 
 -- the plans laid end to end at the buffer's start, and the rest of it as it was
 abbrev pub reel_out : Stop → List (List ℕ) → List ℕ → List ℕ

@@ -1,41 +1,31 @@
 // A reel: pictures in turn, each planned from where the one before leaves the module.
 #![tactic(auto)]
 
-ghost use Rattle.std.specs.Prelude.{◌≡◌, ◌+◌, ◌*◌, ◌≤◌, ◌<◌, length, take, drop};
+ghost use Rattle.std.specs.Prelude.{◌≡◌, ◌+◌, ◌*◌, ◌≤◌, ◌<◌, Ok, length, take, drop};
 ghost use mathlib.Core.List.{flatten};
+ghost use Rattle.refusals.specs.Refusals.{number_of, refusal_in};
 ghost use Rattle.planner.specs.Plan.{at_start, pictured};
 ghost use Rattle.reel.specs.Reel.{pictures_of, plans_of, naming64, first_refused, whole_refusal, stop_of};
-ghost use Rattle.reel.specs.Reel.{matching, reeled_by, refused_at, Reels};
+ghost use Rattle.reel.specs.Reel.{matching, reeled_by, stopped, stop_in, reeled, Reels};
 
 use condition::Condition;
+use refusals::Refusal;
 
-// The most pictures of a reel. This number is named where none of them is refused, or the whole call.
+// The most pictures of a reel. This number is named where the whole call is refused.
 pub const MOST: usize = 64;
 
-// Where a reel is refused: the picture, and its refusal number, 0 for none.
+// Where a reel is refused: the picture, and why.
 #[derive(Clone, Copy)]
 pub struct Stop {
     pub picture: u8,
-    pub refusal: u8,
+    pub refusal: Refusal,
 }
 
-// What a reel answers: where it is refused; all its bytes together, and the length of each plan, all 0 when refused.
+// What is put of a reel: all its bytes together, and the length of each plan, 0 beyond the pictures.
 #[derive(Clone, Copy)]
 pub struct Reeled {
-    pub stop: Stop,
     pub bytes: u32,
     pub lengths: [u8; MOST],
-}
-
-// A refused reel.
-pub fn refused(stop: Stop) -> Reeled
-    ensures { result ≡ refused_at stop }
-{
-    Reeled {
-        stop: stop,
-        bytes: 0,
-        lengths: [0u8; MOST],
-    }
 }
 
 // There are 40 codes for each asked cursor. (Their number times 40 might not fit.)
@@ -43,40 +33,37 @@ pub fn matched(codes: &[u8], cursors: &[u8]) -> bool
     ensures { result ≡ matching codes.now cursors.now }
 {
     let n = codes.len();
-    if n % Condition::CELLS != 0 {
-        return false;
-    }
-    n / Condition::CELLS == cursors.len()
+    n % Condition::CELLS == 0 && n / Condition::CELLS == cursors.len()
 }
 
-// What is refused of the whole call, or of none.
-pub fn naming_64(refusal: u8) -> Stop
-    ensures { result ≡ naming64 refusal }
+// What is refused of the whole call.
+pub fn naming_64(refusal: Refusal) -> Stop
+    ensures { stopped result ≡ naming64 (number_of refusal) }
 {
     Stop {
         picture: MOST as u8,
-        refusal: refusal,
+        refusal,
     }
 }
 
-// The refusal of the whole call, 0 for none. (44 times the number of cursors might not fit.)
-fn whole(c: Condition, codes: &[u8], cursors: &[u8], room: usize) -> u8
-    ensures { result ≡ whole_refusal c codes.now cursors.now room }
+// What the whole call is refused by. (44 times the number of cursors might not fit.)
+fn check_whole(c: &Condition, codes: &[u8], cursors: &[u8], room: usize) -> Result<(), Refusal>
+    ensures { refusal_in result ≡ whole_refusal c.now codes.now cursors.now room }
 {
     let n = cursors.len();
     if !matched(codes, cursors) {
-        return 1;
+        return Err(Refusal::WrongLength);
     }
     if MOST < n {
-        return 3;
+        return Err(Refusal::OutOfRange);
     }
     if !c.well_formed() {
-        return 3;
+        return Err(Refusal::OutOfRange);
     }
     if room / planner::ROOM < n {
-        return 10;
+        return Err(Refusal::NoRoom);
     }
-    0
+    Ok(())
 }
 
 // The codes of picture k.
@@ -85,95 +72,81 @@ fn codes_of(codes: &[u8], k: usize) -> &[u8]
     ensures { result.now ≡ take 40 (drop (k * 40) codes.now) }
 {
     let from = k * Condition::CELLS;
-    let to = from + Condition::CELLS;
-    &codes[from..to]
+    &codes[from..from + Condition::CELLS]
 }
 
 // The first picture that the planner refuses. What a plan leaves is refused what its start is refused, so every picture is asked
 // for from the start.
-fn first_refused(c: Condition, codes: &[u8], cursors: &[u8]) -> Stop
+fn check_pictures(c: Condition, codes: &[u8], cursors: &[u8]) -> Result<(), Stop>
     requires { (length codes.now ≡ 40 * length cursors.now) × (length cursors.now ≤ 64) }
-    ensures { result ≡ first_refused 0 c (pictures_of codes.now cursors.now) }
+    ensures { stop_in result ≡ first_refused 0 c (pictures_of codes.now cursors.now) }
 {
-    let mut k = 0;
-    while k < cursors.len() {
-        let next = k + 1;
+    for (k, cursor) in cursors.iter().enumerate() {
         let wanted = codes_of(codes, k);
-        let n = planner::refusal(c, wanted, cursors[k] as u32, planner::ROOM);
-        if n != 0 {
-            return Stop {
+        if let Some(refusal) = planner::refusal(c, wanted, u32::from(*cursor), planner::ROOM) {
+            return Err(Stop {
                 picture: k as u8,
-                refusal: n,
-            };
+                refusal,
+            });
         }
-        k = next;
     }
-    naming_64(0)
+    Ok(())
 }
 
 // Where the reel is refused: the whole call, or the first picture.
-fn stop_at(c: Condition, codes: &[u8], cursors: &[u8], room: usize) -> Stop
-    ensures { result ≡ stop_of c codes.now cursors.now room }
+fn check(c: Condition, codes: &[u8], cursors: &[u8], room: usize) -> Result<(), Stop>
+    ensures { stop_in result ≡ stop_of c codes.now cursors.now room }
 {
-    let n = whole(c, codes, cursors, room);
-    if n != 0 {
-        return naming_64(n);
+    if let Err(refusal) = check_whole(&c, codes, cursors, room) {
+        return Err(naming_64(refusal));
     }
-    first_refused(c, codes, cursors)
+    check_pictures(c, codes, cursors)
 }
 
 // The condition that a plan of a reel leaves, by the start of the reel: no plan changes more than the cells and the cursor.
-fn left_by(c: Condition, wanted: &[u8], asked: u8) -> Condition
+fn left_by(c: &Condition, wanted: &[u8], asked: u8) -> Condition
     requires { length wanted.now ≡ 40 }
-    ensures { result ≡ pictured c wanted.now asked }
+    ensures { result ≡ pictured c.now wanted.now asked }
 {
-    let mut codes = [0u8; Condition::CELLS];
-    row::copy(&mut codes, wanted);
-    let fonts = [c.font; Condition::CELLS];
-    let mut left = c;
-    left.codes = codes;
-    left.fonts = fonts;
-    left.cursor = asked;
-    left
+    let mut codes = [0; Condition::CELLS];
+    codes.copy_from_slice(wanted);
+    Condition {
+        codes,
+        fonts: [c.font; Condition::CELLS],
+        cursor: asked,
+        ..*c
+    }
 }
 
-// Puts the plans of a reel that is not refused end to end at the start of out; `stop` is handed on in the answer.
-fn put_plans(stop: Stop, c: Condition, codes: &[u8], cursors: &[u8], out: &mut [u8]) -> Reeled
-    requires { (stop_of c codes.now cursors.now (length out.old)).refusal ≡ 0 }
-    ensures { (result ≡ reeled_by stop (plans_of c (pictures_of codes.now cursors.now)))
+// Puts the plans of a reel that is not refused end to end at the start of out.
+fn put_plans(c: &Condition, codes: &[u8], cursors: &[u8], out: &mut [u8]) -> Reeled
+    requires { (stop_of c.now codes.now cursors.now (length out.old)).refusal ≡ 0 }
+    ensures { (reeled (Ok result) ≡ reeled_by (naming64 0) (plans_of c.now (pictures_of codes.now cursors.now)))
         × (out.new
-        ≡ at_start (flatten (plans_of c (pictures_of codes.now cursors.now))) out.old) }
+        ≡ at_start (flatten (plans_of c.now (pictures_of codes.now cursors.now))) out.old) }
 {
-    let mut lengths = [0u8; MOST];
-    let mut left = c;
+    let mut lengths = [0; MOST];
+    let mut left = *c;
     let mut at = 0;
-    let mut k = 0;
-    while k < cursors.len() {
+    for (k, cursor) in cursors.iter().enumerate() {
         let wanted = codes_of(codes, k);
-        let asked = cursors[k];
-        let p = planner::plan(left, wanted, asked as u32, &mut out[at..]);
-        lengths[k] = p.length;
-        at += p.length as usize;
+        let asked = *cursor;
+        let length = planner::plan(left, wanted, u32::from(asked), &mut out[at..]).unwrap();
+        lengths[k] = length;
+        at += length as usize;
         left = left_by(c, wanted, asked);
-        k += 1;
     }
-    let bytes = at as u32;
     Reeled {
-        stop: stop,
-        bytes: bytes,
-        lengths: lengths,
+        bytes: at as u32,
+        lengths,
     }
 }
 
 // The plans of the pictures in turn, 40 codes and a cursor each, end to end at the start of out; or a refusal, and nothing
 // changes. Nothing is put before every picture is known to be planned.
-pub fn reel(c: Condition, codes: &[u8], cursors: &[u8], out: &mut [u8]) -> Reeled
-    ensures { Reels c codes.now cursors.now out.old out.new result }
+pub fn reel(c: Condition, codes: &[u8], cursors: &[u8], out: &mut [u8]) -> Result<Reeled, Stop>
+    ensures { Reels c codes.now cursors.now out.old out.new (reeled result) }
 {
-    let room = out.len();
-    let stop = stop_at(c, codes, cursors, room);
-    if stop.refusal != 0 {
-        return refused(stop);
-    }
-    put_plans(stop, c, codes, cursors, out)
+    check(c, codes, cursors, out.len())?;
+    Ok(put_plans(&c, codes, cursors, out))
 }

@@ -7,8 +7,8 @@ use lib.ListN.{length}
 use borrow.Author.Tests.{le-leb, lt-leb}
 use Rattle.reel.specs.Reel.{whole_refusal}
 use Rattle.reel.proofs.Turns.{short, enough, start-unformed}
-use Rattle.reel.proofs.whole.Goals as goal
-use Rattle.reel.proofs.whole.Goals.{Else-not-well_formed}
+use Rattle.reel.proofs.check_whole.Goals as goal
+use Rattle.reel.proofs.check_whole.Goals.{Else-not-well_formed}
 
 pub returns-then-not-matched : goal.returns-then-not-matched
 unfolding whole_refusal
@@ -30,7 +30,7 @@ returns-then-not-well_formed c =
 
 -- where neither 1 nor 3 holds, the room decides
 room-decides : (e : Else-not-well_formed) → (let a = e.args in
-    whole_refusal a.c a.codes.now a.cursors.now a.room ≡ cond (ltb a.room (44 * length a.cursors.now)) 10 0)
+    whole_refusal a.c.now a.codes.now a.cursors.now a.room ≡ cond (ltb a.room (44 * length a.cursors.now)) 10 0)
 unfolding whole_refusal
 room-decides e =
     let f = e.matched in
