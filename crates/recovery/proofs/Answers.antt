@@ -8,6 +8,7 @@ use native.Mathlib.Omega.{arith}
 use lib.Dec.{ltb}
 use lib.ListN.{length, take}
 use lib.Seq.{take_all, take-append_seam}
+use Rattle.std.specs.Prelude.{Ok, Err}
 use borrow.Author.Tests.{ltb-false, not-false}
 use Rattle.laws.proofs.Tests.{by_cases, passed}
 use Rattle.row.specs.Row.{laid}
@@ -15,10 +16,11 @@ use Rattle.condition.specs.declared.Condition.{Condition}
 use Rattle.row.specs.Row.{all_up_to}
 use Rattle.condition.specs.Condition.{well_formed}
 use Rattle.condition.proofs.Good.{Sized}
-use Rattle.planner.specs.declared.Planned.{Planned}
-use Rattle.planner.specs.Answer.{Promise}
+use Rattle.refusals.specs.declared.Refusal.{Refusal}
+use Rattle.refusals.specs.Refusals.{number_of}
+use Rattle.planner.specs.Answer.{Planned, planned, Promise}
 use Rattle.planner.specs.Plan.{at_start}
-use Rattle.planner.proofs.Refusals.{planned, refused, taken-on, told, one-plan}
+use Rattle.planner.proofs.Refusals.{refused, taken-on, told, one-plan}
 use Rattle.recovery.specs.Recovery.{get_back, PowersUp, NoWayBack, lost, recover_refusal, Recovers}
 use Rattle.recovery.proofs.Lost.{no_way_back}
 use Rattle.recovery.proofs.Back.{back}
@@ -71,19 +73,19 @@ with-exactly : (c : Condition) (before after : List ℕ) (r : Planned) → Sized
     → Promise (recover_refusal c (length before)) get_back (PowersUp c) before after r → Recovers c before after r
 with-exactly c before after r s p = record { gives = p; exactly = rw p.answer (exactly c (length before) s) }
 
-module _ (c : Condition) (out : List ℕ) (s : Sized c) (n : ℕ) (e : n ≡ recover_refusal c (length out)) where
+module _ (c : Condition) (out : List ℕ) (s : Sized c) where
   -- refused, nothing changes
-  pub refuses : (n ≡ 0 → ⊥) → Recovers c out out (planned n 0)
-  refuses bad = with-exactly c out out (planned n 0) s (refused _ _ _ _ n e bad)
+  pub refuses : (r : Refusal) → number_of r ≡ recover_refusal c (length out) → Recovers c out out (planned (Err r))
+  refuses r e = with-exactly c out out (planned (Err r)) s (refused _ _ _ _ r e)
 
   -- accepted, the eight bytes are laid over the output, which has room for them
-  pub puts : (after : List ℕ) → n ≡ 0 → after ≡ laid get_back out → Recovers c out after (planned 0 8)
+  pub puts : (after : List ℕ) → recover_refusal c (length out) ≡ 0 → after ≡ laid get_back out
+      → Recovers c out after (planned (Ok 8))
   unfolding get_back laid
   puts after z p =
-      let t = accepted c (length out) (sym e ∙ z) in
+      let t = accepted c (length out) z in
       let q : after ≡ at_start get_back out = p ∙ rw (take_all (length out) get_back t.roomy) in
-      with-exactly c out after (planned 0 8) s
-      (taken-on _ _ _ _ after 8 (sym e ∙ z) (back c s t.formed t.found) (refl, q))
+      with-exactly c out after (planned (Ok 8)) s (taken-on _ _ _ _ after 8 z (back c s t.formed t.found) (refl, q))
 
 -- the bytes that are given for one condition serve from every other too that has a way back: so they can be sent to a module whose
 -- condition is not known

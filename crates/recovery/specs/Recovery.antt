@@ -7,8 +7,7 @@ use Rattle.condition.specs.declared.Pending.TheVariants.{Nothing, Escape, Positi
 use Rattle.row.specs.Row.{all_up_to}
 use Rattle.condition.specs.Condition.{well_formed, power_up}
 use Rattle.condition.specs.Bytes.{run_of}
-use Rattle.planner.specs.declared.Planned.{Planned}
-use Rattle.planner.specs.Answer.{Promise}
+use Rattle.planner.specs.Answer.{Planned, Promise}
 
 -- The way back --------------------------------------------------------------------------------------------------------------------
 

@@ -2,10 +2,12 @@
 #![tactic(auto)]
 
 ghost use Rattle.std.specs.Prelude.{◌≡◌};
+ghost use Rattle.refusals.specs.Refusals.{refusal_in};
+ghost use Rattle.planner.specs.Answer.{planned};
 ghost use Rattle.recovery.specs.Recovery.{makes_escape, lost, recover_refusal, Recovers};
 
 use condition::{Condition, Pending};
-use planner::Planned;
+use refusals::Refusal;
 
 // ESC: the byte that begins an ESC command.
 const ESCAPE: u8 = 0x1b;
@@ -17,63 +19,38 @@ pub const ROOM: usize = 8;
 fn makes_escape(p: Pending) -> bool
     ensures { result ≡ makes_escape p }
 {
-    match p {
-        Pending::Nothing => false,
-        Pending::Escape => false,
-        Pending::Position => false,
-        Pending::Luminance => false,
-        Pending::Speed => false,
-        Pending::UserCode => false,
-        Pending::UserData(code, _) => code == ESCAPE,
-    }
+    matches!(p, Pending::UserData(ESCAPE, _))
 }
 
 // ESC is a user character, or is just being made one. Then no ESC command can begin any more, so nothing helps.
-fn is_lost(c: Condition) -> bool
-    ensures { result ≡ lost c }
+fn is_lost(c: &Condition) -> bool
+    ensures { result ≡ lost c.now }
 {
-    let users = c.users;
-    let bytes = users.bytes;
-    let pending = c.pending;
-    let made = users::is_found(users::find(&bytes, users.count, ESCAPE));
-    made | makes_escape(pending)
+    c.users.list().is_user(ESCAPE) || makes_escape(c.pending)
 }
 
-// What `recover` refuses by, with so much room in its output: 0 for nothing.
-fn refusal(c: Condition, room: usize) -> u8
-    ensures { result ≡ recover_refusal c room }
+// What `recover` refuses by, with so much room in its output.
+fn check(c: &Condition, room: usize) -> Result<(), Refusal>
+    ensures { refusal_in result ≡ recover_refusal c.now room }
 {
-    let formed = c.well_formed();
-    let lost = is_lost(c);
-    if !formed {
-        return 3;
+    if !c.well_formed() {
+        return Err(Refusal::OutOfRange);
     }
-    if lost {
-        return 11;
+    if is_lost(c) {
+        return Err(Refusal::Lost);
     }
     if room < ROOM {
-        return 10;
+        return Err(Refusal::NoRoom);
     }
-    0
+    Ok(())
 }
 
-// The eight bytes at the start of out; or a refusal, and nothing changes. Six 00h end any command that is half received: the
-// longest wait is for a user character's code and its five bytes. Then comes Initialise.
-pub fn recover(c: Condition, out: &mut [u8]) -> Planned
-    ensures { Recovers c out.old out.new result }
+// The eight bytes at the start of out, and their number; or a refusal, and nothing changes. Six 00h end any command that is half
+// received: the longest wait is for a user character's code and its five bytes. Then comes Initialise.
+pub fn recover(c: Condition, out: &mut [u8]) -> Result<u8, Refusal>
+    ensures { Recovers c out.old out.new (planned result) }
 {
-    let room = out.len();
-    let n = refusal(c, room);
-    if n != 0 {
-        return Planned {
-            refusal: n,
-            length: 0,
-        };
-    }
-    let back = [0x00u8, 0x00, 0x00, 0x00, 0x00, 0x00, ESCAPE, 0x49];
-    row::copy(out, &back);
-    Planned {
-        refusal: 0,
-        length: ROOM as u8,
-    }
+    check(&c, out.len())?;
+    row::copy(out, &[0x00, 0x00, 0x00, 0x00, 0x00, 0x00, ESCAPE, 0x49]);
+    Ok(ROOM as u8)
 }

@@ -1,15 +1,19 @@
-use Rattle.laws.proofs.Tests.{by_cases}
+use mathlib.Core.Path.{sym, ap, ◌∙◌}
 use Rattle.users.specs.Users.{is_user}
-use Rattle.recovery.specs.Recovery.{makes_escape, lost}
+use Rattle.planner.proofs.Wanted.{at-list}
+use Rattle.recovery.specs.Recovery.{lost}
 use Rattle.recovery.proofs.is_lost.Goals as goal
 
--- by which of the two hold, in whatever order they are asked
-pub returns : goal.returns
-unfolding lost is_user
-returns c =
+pub returns-then-is_user : goal.returns-then-is_user
+unfolding lost
+returns-then-is_user c =
     let a = c.args in
-    let made = is_user a.c.users 0x1b in
-    let making = makes_escape a.c.pending in
-    rw (c.makes_escape.ensures, c.is_found-made.ensures, c.find.ensures)
-    (by_cases made (λ x. by_cases making (λ y. search (x, y)) (λ y. search (x, y)))
-    (λ x. by_cases making (λ y. search (x, y)) (λ y. search (x, y))))
+    c.if-is_user.true
+    ∙ rw (sym (c.is_user.ensures ∙ ap (λ u. is_user u 0x1b) (at-list a.c.now.users _ _ c.list.ensures)) ∙ c.if-is_user.true)
+
+pub returns-else-is_user : goal.returns-else-is_user
+unfolding lost
+returns-else-is_user c =
+    let a = c.args in
+    c.makes_escape.ensures
+    ∙ rw (sym (c.is_user.ensures ∙ ap (λ u. is_user u 0x1b) (at-list a.c.now.users _ _ c.list.ensures)) ∙ c.if-is_user.false)

@@ -1,4 +1,6 @@
+use mathlib.Core.Path.{sym}
 use borrow.Author.Rules.{rules}
+use Rattle.std.proofs.lemmas.Result.{err_from_is_err_and}
 use Rattle.condition.proofs.Good.{Sized}
 use Rattle.recovery.specs.Recovery.{get_back}
 use Rattle.recovery.proofs.Answers.{refuses, puts}
@@ -12,10 +14,12 @@ Rows c = Sized c.args.c
 rows : (c : Start) → Rows c
 rows c = record { codes-40 = search rules; fonts-40 = search rules; users-96 = search rules; held-4 = search rules }
 
-pub returns-then-n-ne0 : goal.returns-then-n-ne0
-returns-then-n-ne0 c = refuses _ _ (rows (goal.at.returns-then-n-ne0 c).Start) _ c.refusal-n.ensures c.if-n-ne0.true
+pub returns-in_err-check : goal.returns-in_err-check
+returns-in_err-check c =
+    let p = err_from_is_err_and c.from_residual.result c.from_residual.ensures.1 in
+    rw (p.1, p.2) (refuses _ _ (rows (goal.at.returns-in_err-check c).Start) _ c.in_err-check.ensures)
 
 pub returns : goal.returns
 unfolding get_back
 returns c =
-    puts _ _ (rows (goal.at.returns c).Start) _ c.refusal-n.ensures _ c.if-n-ne0.false c.copy.ensures
+    puts _ _ (rows (goal.at.returns c).Start) _ (sym c.in_ok-check.ensures) c.copy.ensures
