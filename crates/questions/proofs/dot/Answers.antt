@@ -1,12 +1,11 @@
+use borrow.Author.Rules.{rules}
+use Rattle.glass.specs.Answers.{dot_answer}
+use Rattle.glass.proofs.Refusals.{dot-unformed}
 use Rattle.questions.specs.Questions.{host_dot}
-use Rattle.questions.proofs.Asked.{asked-damaged, dot-in}
+use Rattle.questions.proofs.Asked.{told}
 use Rattle.questions.proofs.dot.Goals as goal
 
-pub returns-then-got-ne0 : goal.returns-then-got-ne0
-unfolding host_dot
-returns-then-got-ne0 c = rw c.answer.ensures (asked-damaged _ _ c.opened-got.ensures _ _ c.if-got-ne0.true)
-
 pub returns : goal.returns
+unfolding host_dot
 returns c =
-    rw c.answer-2.ensures
-    (dot-in _ _ c.opened-got.ensures c.if-got-ne0.false _ _ _ c.dot-dot.ensures)
+    told _ _ (λ x. dot_answer x c.args.code c.args.k) (λ x value p. search rules) (λ w. dot-unformed _ w _ _) _ c.ask.ensures

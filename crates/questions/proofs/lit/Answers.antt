@@ -1,12 +1,11 @@
+use borrow.Author.Rules.{rules}
+use Rattle.glass.specs.Answers.{lit_answer}
+use Rattle.glass.proofs.Refusals.{lit-unformed}
 use Rattle.questions.specs.Questions.{host_lit}
-use Rattle.questions.proofs.Asked.{asked-damaged, lit-in}
+use Rattle.questions.proofs.Asked.{told}
 use Rattle.questions.proofs.lit.Goals as goal
 
-pub returns-then-got-ne0 : goal.returns-then-got-ne0
-unfolding host_lit
-returns-then-got-ne0 c = rw c.answer.ensures (asked-damaged _ _ c.opened-got.ensures _ _ c.if-got-ne0.true)
-
 pub returns : goal.returns
+unfolding host_lit
 returns c =
-    rw c.answer-2.ensures
-    (lit-in _ _ c.opened-got.ensures c.if-got-ne0.false _ _ c.lit-lit.ensures)
+    told _ _ (λ x. lit_answer x c.args.code) (λ x value p. search rules) (λ w. lit-unformed _ w _) _ c.ask.ensures

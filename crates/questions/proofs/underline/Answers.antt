@@ -1,12 +1,11 @@
+use borrow.Author.Rules.{rules}
+use Rattle.glass.specs.Answers.{underline_answer}
+use Rattle.glass.proofs.Refusals.{underline-unformed}
 use Rattle.questions.specs.Questions.{host_underline}
-use Rattle.questions.proofs.Asked.{asked-damaged, underline-in}
+use Rattle.questions.proofs.Asked.{told}
 use Rattle.questions.proofs.underline.Goals as goal
 
-pub returns-then-got-ne0 : goal.returns-then-got-ne0
-unfolding host_underline
-returns-then-got-ne0 c = rw c.answer.ensures (asked-damaged _ _ c.opened-got.ensures _ _ c.if-got-ne0.true)
-
 pub returns : goal.returns
+unfolding host_underline
 returns c =
-    rw c.answer-2.ensures
-    (underline-in _ _ c.opened-got.ensures c.if-got-ne0.false _ _ c.underline-underline.ensures)
+    told _ _ (λ x. underline_answer x c.args.code) (λ x value p. search rules) (λ w. underline-unformed _ w _) _ c.ask.ensures

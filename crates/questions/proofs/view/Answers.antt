@@ -1,12 +1,11 @@
-use Rattle.questions.specs.Questions.{host_view}
-use Rattle.questions.proofs.Asked.{asked-damaged, view_in}
+use borrow.Author.Rules.{rules}
+use Rattle.glass.specs.Answers.{view_answer}
+use Rattle.glass.proofs.Refusals.{view-unformed}
+use Rattle.questions.specs.Questions.{viewed, host_view}
+use Rattle.questions.proofs.Asked.{told}
 use Rattle.questions.proofs.view.Goals as goal
 
-pub returns-then-got-ne0 : goal.returns-then-got-ne0
-unfolding host_view
-returns-then-got-ne0 c = rw c.answer.ensures (asked-damaged _ _ c.opened-got.ensures _ _ c.if-got-ne0.true)
-
 pub returns : goal.returns
+unfolding host_view
 returns c =
-    rw (c.answer-2.ensures, c.shows_number.ensures)
-    (view_in _ _ c.opened-got.ensures c.if-got-ne0.false _ _ c.view-seen.ensures)
+    told _ _ (λ x. viewed (view_answer x c.args.position)) (λ x value p. search rules) (λ w. view-unformed _ w _) _ c.ask.ensures
