@@ -14,11 +14,14 @@ use Rattle.users.specs.Users.{room_of, is_user, absent, places_formed, held_form
 use Rattle.users.proofs.Places.{not-user, new-not-user, define-most}
 use Rattle.users.proofs.Formed.{define-formed, absent-at, at-absent, next-held}
 use Rattle.index.proofs.Entries.{none-agrees}
+use Rattle.std.specs.Prelude.{Result, Ok, Err}
+use Rattle.refusals.specs.declared.Refusal.{Refusal}
+use Rattle.refusals.proofs.Laws.{one-answer}
 use Rattle.condition.specs.declared.Condition.{Condition}
 use Rattle.condition.specs.declared.Pending.{Pending}
 use Rattle.condition.specs.declared.Pending.TheVariants.{Nothing, Escape, UserData}
 use Rattle.condition.specs.Condition.{column, idle, held_of, numbers_good}
-use Rattle.condition.specs.Condition.{scroll_good, escape_good, well_formed, power_up, power_up_answer}
+use Rattle.condition.specs.Condition.{scroll_good, escape_good, well_formed, power_up, outcome, power_up_answer}
 use Rattle.condition.specs.Set.{with_cells, with_cell, with_cursor, with_mode, with_scrolling, with_shown, with_font, with_euro}
 use Rattle.condition.specs.Set.{with_luminance, with_speed, with_flickerless, with_pending, go_to}
 use Rattle.condition.specs.Bytes.{scroll_of, left_of, right_of, down_of, return_of, clear_of, push_of, write_of, is_char}
@@ -46,6 +49,10 @@ powered f h = rw h
 pub unpowered : (f : ℕ) → leb f 1 ≡ false → power_up_answer f ≡ record { refusal = 3; condition = power_up 0 }
 unfolding power_up_answer
 unpowered f h = rw h
+
+-- any two answers that the contract of `power_up`, or of a reading, allows are equal
+pub one-outcome : (r s : Result Condition Refusal) → outcome r ≡ outcome s → r ≡ s
+one-outcome = one-answer outcome (λ o. o.refusal) (λ o. o.condition) (λ _. refl) (λ _. refl) (λ _. refl)
 
 -- One field changed --------------------------------------------------------------------------------------------------------
 
