@@ -14,6 +14,23 @@ use Rattle.laws.proofs.Lists.{part_length, cut, in-front, behind}
 use Rattle.row.specs.Row.{advanced}
 use Rattle.users.specs.Users.{removed}
 
+-- a part that is advanced by a place: what stands one place further on is copied over it
+pub advanced-part : (us : List ℕ) (a n k : ℕ) → n ≡ k + 6 → a + n ≤ length us
+    → put_mid a n us (advanced 6 (take n (drop a us))) ≡ paste us a (drop (a + 6) us) k
+unfolding advanced
+advanced-part us a n k e l =
+    let m = drop a us in
+    let more : k + 6 ≡ 6 + k = omega arith in
+    let fewer : k + 6 - 6 ≡ k = omega arith in
+    let len : length (take (k + 6) m) ≡ k + 6 = part_length a (k + 6) us (omega (arith, l, e)) in
+    let first : drop 6 (take (k + 6) m) ≡ take k (drop (a + 6) us) =
+    rw (more, take-add 6 k m, drop_at (take 6 m) (take k (drop 6 m)) 6 (part_length a 6 us (omega (arith, l, e)))) (ap (take k) (drop-drop 6 a us)) in
+    let last : drop k (take (k + 6) m) ≡ take 6 (drop k m) =
+    rw (take-add k 6 m) (drop_at (take k m) (take 6 (drop k m)) k (part_length a k us (omega (arith, l, e)))) in
+    let rest : take 6 (drop k m) ++ drop (k + 6) m ≡ drop (a + k) us =
+    rw (← drop-drop 6 k m) (take-append-drop 6 (drop k m) ∙ drop-drop k a us) in
+    rw (e, len, fewer, first, last) (rw (append_assoc (take k (drop (a + 6) us)) (take 6 (drop k m)) (drop (k + 6) m), rest) (simp append_assoc))
+
 -- What then stands where ------------------------------------------------------------------------------------------------------
 
 -- the place that comes to the place i: itself before k, from there on the next one
@@ -44,17 +61,21 @@ module _ (us : List ℕ) (k youngest : ℕ) (h : k ≤ youngest) (l : youngest *
       length-append (older ++ younger ++ replicate 6 0) (drop (youngest * 6 + 6) us)
       ∙ rw (kept-length, length-drop (youngest * 6 + 6) us) (omega arith)
 
-  -- what `remove` leaves: the later places are copied over it, and the youngest place is 0
-  pub remove-law : (x z : List ℕ) (m n : ℕ) → m ≡ (youngest - k) * 6 → n ≡ 6 → x ≡ paste us (k * 6) (drop (k * 6 + 6) us) m
-      → length x ≡ length us → z ≡ replicate (length (take n (drop (youngest * 6) x))) 0
-      → put_mid (youngest * 6) n x z ≡ removed k youngest us
+  -- what `remove` leaves: what stands behind it is copied over it, and the youngest place is 0
+  pub remove-law : (x z : List ℕ) (n : ℕ) → n ≡ 6 → x ≡ paste us (k * 6) (drop (k * 6 + 6) us) ((youngest - k) * 6)
+      → z ≡ replicate (length (take n (drop (youngest * 6) x))) 0 → put_mid (youngest * 6) n x z ≡ removed k youngest us
   unfolding removed
-  remove-law x z m n e six p same zeros =
-      let rest = drop (k * 6 + (youngest - k) * 6) us in
-      let behind-it : drop 6 rest ≡ drop (youngest * 6 + 6) us =
-      drop-drop 6 (k * 6 + (youngest - k) * 6) us ∙ ap (λ (i : ℕ). drop i us) (omega arith) in
-      rw (zeros, six, part_length (youngest * 6) 6 x (omega (arith, same)), p, e)
-      (rw (take_at (older ++ younger) rest (youngest * 6) both-length, drop_at (older ++ younger) rest (youngest * 6) both-length, behind-it)
+  remove-law x z n six p zeros =
+      let end = k * 6 + (youngest - k) * 6 in
+      let rest = drop end us in
+      let behind-it : drop 6 rest ≡ drop (youngest * 6 + 6) us = drop-drop 6 end us ∙ ap (λ (i : ℕ). drop i us) (omega arith) in
+      rw (zeros, six, p)
+      (rw (
+        take_at (older ++ younger) rest (youngest * 6) both-length,
+        drop_at (older ++ younger) rest (youngest * 6) both-length,
+        part_length end 6 us (omega arith),
+        behind-it,
+      )
       (simp append_assoc))
 
   -- before the youngest place, what stood in the place itself or in the next one

@@ -174,8 +174,8 @@ fn remove(bytes: &mut [u8], k: usize, youngest: usize)
 {
     let at = k * Users::PLACE;
     let end = youngest * Users::PLACE;
-    bytes.copy_within(at + Users::PLACE..end + Users::PLACE, at);
-    bytes[end..end + Users::PLACE].fill(0);
+    row::advance(&mut bytes[at..end + Users::PLACE], Users::PLACE);
+    row::clear(&mut bytes[end..end + Users::PLACE], 0);
 }
 
 // A code with its five bytes comes last, the youngest. The place that it had is taken out; where it had none and all places are
