@@ -76,9 +76,6 @@ module _ (c : Condition) (codes cursors out₀ out lengths : List ℕ) (left : C
   pub same-long : length out ≡ length out₀
   same-long = sym (simp length-sets at (ap length v.laid))
 
-  pub at-inside : at ≤ length out
-  at-inside = omega (arith, v.most, v.inside, v.given.room-44, same-long)
-
   module _ (h : k < length cursors) (wanted : List ℕ) (w : wanted ≡ take 40 (drop (k * 40) codes)) where
     pub wanted-40 : length wanted ≡ 40
     wanted-40 = ap length w ∙ part_length (k * 40) 40 codes (omega (arith, v.given.codes-40))

@@ -2,13 +2,13 @@
 use mathlib.Core.Path.{◌≡◌, refl, sym, ◌∙◌}
 use mathlib.Core.Bool.{true, false, cond, not, ◌&&◌, and-false}
 use mathlib.Core.List.{List, [], ◌∷◌}
-use Prim.Native.Nat.{ℕ, zero, suc, ◌+◌, ◌*◌, ◌/◌, ◌%◌, ◌≤◌, ◌<◌}
+use Prim.Native.Nat.{ℕ, zero, suc, ◌+◌, ◌*◌, ◌/◌, ◌≤◌, ◌<◌}
 use native.Mathlib.Omega.{arith}
 use native.Mathlib.Numerals.{add-one}
 use lib.Dec.{eqb, ltb, leb}
 use lib.ListN.{length, get_or, take, drop, drop_of_length-le}
 use lib.Seq.{drop-drop, drop-cons}
-use borrow.Author.Tests.{eqb-true, eqb-false, eq-eqb, ne_eqb, ltb-false, lt-ltb, le-ltb, leb-true, not-false}
+use borrow.Author.Tests.{eqb-true, eqb-false, ne_eqb, ltb-false, lt-ltb, le-ltb, leb-true, not-false}
 use Rattle.laws.proofs.Tests.{by_cases, both, passed}
 use Rattle.condition.specs.declared.Condition.{Condition}
 use Rattle.condition.specs.Condition.{well_formed}
@@ -20,14 +20,6 @@ use Rattle.reel.specs.Reel.{Stop}
 use Rattle.reel.specs.Reel.{Picture, pictures_of, plan_for, refusal_for, matching, naming64, first_refused, whole_refusal, stop_of}
 
 -- Lengths -------------------------------------------------------------------------------------------------------------------------
-
-pub unmatched : (n m : ℕ) → (n % 40 ≡ 0 → ⊥) → eqb n (40 * m) ≡ false
-unmatched n m h = ne_eqb n (40 * m) (λ e. h (omega arith))
-
-pub matched-by : (n m : ℕ) → n % 40 ≡ 0 → eqb (n / 40) m ≡ eqb n (40 * m)
-matched-by n m h =
-    by_cases (eqb (n / 40) m) (λ e. e ∙ sym (eq-eqb n (40 * m) (omega (arith, eqb-true (n / 40) m e))))
-    (λ e. e ∙ sym (ne_eqb n (40 * m) (λ z. eqb-false (n / 40) m e (omega arith))))
 
 pub short : (room m : ℕ) → room / 44 < m → ltb room (44 * m) ≡ true
 short room m h = lt-ltb room (44 * m) (omega arith)

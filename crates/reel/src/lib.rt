@@ -21,6 +21,18 @@ pub struct Stop {
     pub refusal: Refusal,
 }
 
+// What is refused of the whole call names 64.
+impl From<Refusal> for Stop {
+    ghost from_gives = { λ refusal stop. stopped stop ≡ naming64 (number_of refusal) };
+
+    fn from(refusal: Refusal) -> Stop {
+        Stop {
+            picture: MOST as u8,
+            refusal,
+        }
+    }
+}
+
 // What is put of a reel: all its bytes together, and the length of each plan, 0 beyond the pictures.
 #[derive(Clone, Copy)]
 pub struct Reeled {
@@ -34,16 +46,6 @@ pub fn matched(codes: &[u8], cursors: &[u8]) -> bool
 {
     let n = codes.len();
     n % Condition::CELLS == 0 && n / Condition::CELLS == cursors.len()
-}
-
-// What is refused of the whole call.
-pub fn naming_64(refusal: Refusal) -> Stop
-    ensures { stopped result ≡ naming64 (number_of refusal) }
-{
-    Stop {
-        picture: MOST as u8,
-        refusal,
-    }
 }
 
 // What the whole call is refused by. (44 times the number of cursors might not fit.)
@@ -97,9 +99,7 @@ fn check_pictures(c: Condition, codes: &[u8], cursors: &[u8]) -> Result<(), Stop
 fn check(c: Condition, codes: &[u8], cursors: &[u8], room: usize) -> Result<(), Stop>
     ensures { stop_in result ≡ stop_of c codes.now cursors.now room }
 {
-    if let Err(refusal) = check_whole(&c, codes, cursors, room) {
-        return Err(naming_64(refusal));
-    }
+    check_whole(&c, codes, cursors, room)?;
     check_pictures(c, codes, cursors)
 }
 
