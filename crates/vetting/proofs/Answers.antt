@@ -10,7 +10,7 @@ use lib.Seq.{ext_get_or}
 use borrow.Author.Tests.{eq-eqb, eqb-true, eqb-false, ne_eqb, ltb-true, ltb-false, lt-ltb, not-false}
 use Rattle.laws.proofs.Tests.{by_cases, clash, both, passed}
 use Rattle.condition.specs.declared.Condition.{Condition}
-use Rattle.condition.specs.declared.Outcome.{Outcome}
+use Rattle.condition.specs.Condition.{Outcome}
 use Rattle.condition.specs.Condition.{well_formed}
 use Rattle.condition.specs.Bytes.{run_of}
 use Rattle.condition.proofs.Good.{Sized, run-sized}
@@ -25,8 +25,7 @@ use Rattle.planner.specs.Fonts.{wrong_cell}
 use Rattle.planner.specs.Answer.{plan_refusal}
 use Rattle.planner.proofs.Costs.{flagged-none, unflagged}
 use Rattle.planner.proofs.Refusals.{unformed, accepted, plan-delivers}
-use Rattle.vetting.specs.declared.Verdict.{Verdict}
-use Rattle.vetting.specs.declared.Verdict.TheVariants.{Refused, Byte, Cell, Cursor, Yes}
+use Rattle.vetting.specs.Verdicts.{Verdict, Refused, Byte, Cell, Cursor, Yes}
 use Rattle.vetting.specs.Vetting.{permitted, Gives, wrong_after, picture_verdict, excess_over, judged_of, long_refusal, vet_refusal}
 use Rattle.vetting.specs.Vetting.{block_refusal, block_verdict}
 use Rattle.vetting.specs.Vetting.{verdict_by, is_yes, excess_in, Exceeds, Promise, Vets, VetsBlock}

@@ -6,7 +6,7 @@ use mathlib.Core.List.{[]}
 use native.Mathlib.Omega.{arith}
 use Rattle.planner.specs.Plan.{flagged}
 use Rattle.planner.proofs.Counting.{rest-no, rest-yes}
-use Rattle.vetting.specs.declared.Verdict.TheVariants.{Cell}
+use Rattle.vetting.specs.Verdicts.{Cell}
 use Rattle.vetting.specs.Vetting.{picture_verdict}
 
 -- no cell below j is wrong

@@ -28,8 +28,7 @@ use Rattle.planner.specs.Clear.{start_of, either_plan}
 use Rattle.planner.specs.Answer.{plan_refusal}
 use Rattle.planner.proofs.Refusals.{accepted}
 use Rattle.planner.proofs.Clear.{clears, clear-byte}
-use Rattle.vetting.specs.declared.Verdict.{Verdict}
-use Rattle.vetting.specs.declared.Verdict.TheVariants.{Byte}
+use Rattle.vetting.specs.Verdicts.{Verdict, Byte}
 use Rattle.vetting.specs.declared.steps.Moved.{Moved}
 use Rattle.vetting.specs.Steps.{char_in, clears_first, clears_in, move_of}
 use Rattle.vetting.specs.Vetting.{permitted, longest, wrong_after, picture_verdict, excess_over, judged_of}

@@ -1,2 +1,3 @@
+pub mod Verdicts
 pub mod Steps
 pub mod Vetting

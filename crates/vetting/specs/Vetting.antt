@@ -11,8 +11,7 @@ use Rattle.planner.specs.Fonts.{wrong_cell}
 use Rattle.planner.specs.Clear.{either_plan}
 use Rattle.planner.specs.Answer.{plan_refusal}
 use Rattle.host.specs.Host.{host_refusal_by}
-use Rattle.vetting.specs.declared.Verdict.{Verdict}
-use Rattle.vetting.specs.declared.Verdict.TheVariants.{Refused, Byte, Cell, Cursor, Yes}
+use Rattle.vetting.specs.Verdicts.{Verdict, Refused, Byte, Cell, Cursor, Yes}
 
 -- The question ------------------------------------------------------------------------------------------------------------------
 

@@ -5,6 +5,7 @@ ghost use Rattle.planner.specs.Fonts.{wrong_cell};
 ghost use Rattle.planner.specs.Clear.{either_plan};
 ghost use Rattle.planner.specs.Answer.{plan_refusal};
 ghost use Rattle.vetting.specs.Steps.{char_in, clears_in};
+ghost use Rattle.vetting.specs.Verdicts.{unrefused};
 ghost use Rattle.vetting.specs.Vetting.{picture_verdict, judged_of};
 
 use crate::Verdict;
@@ -29,7 +30,7 @@ fn settle(
     excess: u32,
 ) -> Verdict
     requires { length wanted.now ≡ 40 }
-    ensures { result ≡ picture_verdict
+    ensures { unrefused result ≡ picture_verdict
         (flagged (λ j. wrong_cell (get_or codes.now j 0) (get_or fonts.now j 0) (get_or wanted.now j 0) font)
         40 0) (eqb p asked) excess }
 {
@@ -48,7 +49,7 @@ fn settle(
 pub(crate) fn judge(c: Condition, wanted: &[u8], asked: u8, string: &[u8], least: u8) -> Verdict
     requires { (plan_refusal c wanted.now asked 44 ≡ 0) × (length string.now ≤ 32768)
         × (least ≡ length (either_plan c wanted.now asked)) }
-    ensures { result ≡ judged_of c wanted.now asked string.now }
+    ensures { unrefused result ≡ judged_of c wanted.now asked string.now }
 {
     let clear = clears_first(&c.index, string);
     let mut codes = planner::cells::codes_at(c, clear);

@@ -1,13 +1,17 @@
+use mathlib.Core.Path.{refl}
+use Rattle.std.proofs.lemmas.Result.{err_from_is_err_and}
+use Rattle.host.proofs.Once.{not-none}
 use Rattle.vetting.proofs.Answers.{block-short, block-damaged, block-vetted}
 use Rattle.vetting.proofs.vet_block.Goals as goal
 
 pub returns-then-wanted-ne-CELLS : goal.returns-then-wanted-ne-CELLS
 returns-then-wanted-ne-CELLS c = block-short _ _ _ _ c.if-wanted-ne-CELLS.true
 
-pub returns-then-got-ne0 : goal.returns-then-got-ne0
-returns-then-got-ne0 c =
-    block-damaged _ _ _ _ _ c.opened-got.ensures c.if-wanted-ne-CELLS.false c.if-got-ne0.true
+pub returns-in_err-c : goal.returns-in_err-c
+returns-in_err-c c =
+    let e = err_from_is_err_and c.from_residual.result c.from_residual.ensures.1 in
+    rw (e.1, e.2) (block-damaged _ _ _ _ _ c.in_err-c.ensures c.if-wanted-ne-CELLS.false (not-none _))
 
 pub returns : goal.returns
 returns c =
-    block-vetted _ _ _ _ _ c.opened-got.ensures c.if-wanted-ne-CELLS.false c.if-got-ne0.false _ c.vet.ensures
+    block-vetted _ _ _ _ _ c.in_ok-c.ensures c.if-wanted-ne-CELLS.false refl _ c.vet.ensures
