@@ -7,13 +7,12 @@ use native.Mathlib.Omega.{arith}
 use lib.Dec.{eqb, ltb, leb}
 use lib.ListN.{length, get_or, replicate, length-replicate}
 use lib.Seq.{take-append_seam}
-use Rattle.std.specs.Prelude.{Ok, Err}
+use Rattle.std.specs.Prelude.{Result, Ok, Err}
 use borrow.Author.Tests.{eqb-true, ne_eqb, ltb-false, le-ltb, leb-true, not-false}
 use Rattle.laws.proofs.Tests.{by_cases, clash, both, neither, passed}
 use Rattle.refusals.specs.declared.Refusal.{Refusal}
 use Rattle.refusals.specs.Refusals.{number_of}
-use Rattle.refusals.specs.declared.Refusal.TheVariants.{WrongLength, Damaged, OutOfRange, TooLong, TallyFull, HalfReceived}
-use Rattle.refusals.specs.declared.Refusal.TheVariants.{WrongMode, UserOnMove, NoCharacter, NoRoom, Lost}
+use Rattle.refusals.proofs.Laws.{numbered, one-answer}
 use Rattle.users.specs.declared.Users.{Users}
 use Rattle.users.specs.Users.{is_user}
 use Rattle.condition.specs.declared.Condition.{Condition}
@@ -249,20 +248,6 @@ fonts-given c wanted fonts asked t =
 
 -- Answers -------------------------------------------------------------------------------------------------------------------------
 
--- no refusal has the number of none
-pub numbered : (r : Refusal) → number_of r ≡ 0 → ⊥
-numbered WrongLength = λ h. omega arith
-numbered Damaged = λ h. omega arith
-numbered OutOfRange = λ h. omega arith
-numbered TooLong = λ h. omega arith
-numbered TallyFull = λ h. omega arith
-numbered HalfReceived = λ h. omega arith
-numbered WrongMode = λ h. omega arith
-numbered UserOnMove = λ h. omega arith
-numbered NoCharacter = λ h. omega arith
-numbered NoRoom = λ h. omega arith
-numbered Lost = λ h. omega arith
-
 module _ (number : ℕ) (bytes : List ℕ) (For : List ℕ → Type 0) (out : List ℕ) where
   pub refused : (r : Refusal) → number_of r ≡ number → Promise number bytes For out out (planned (Err r))
   unfolding bytes_by
@@ -291,6 +276,10 @@ module _ (number : ℕ) (bytes : List ℕ) (For : List ℕ → Type 0) (out : Li
   pub one-plan : (a b : List ℕ) (r s : Planned) → Promise number bytes For out a r → Promise number bytes For out b s
       → (r ≡ s) × (a ≡ b)
   one-plan a b r s f g = (f.answer ∙ sym g.answer, f.output ∙ sym g.output)
+
+-- any two answers of the code that are the same in the paper's words are the same
+pub one-planned : (r s : Result ℕ Refusal) → planned r ≡ planned s → r ≡ s
+one-planned = one-answer planned (λ p. p.refusal) (λ p. p.length) (λ _. refl) (λ _. refl) (λ _. refl)
 
 -- what is counted of a plan that is not refused is its length
 pub counted : (c : Condition) (wanted : List ℕ) (asked : ℕ) (r : Planned) → Counts c wanted asked r

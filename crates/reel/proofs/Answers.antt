@@ -4,7 +4,11 @@ use mathlib.Core.List.{List, [], ◌∷◌, ◌++◌, map, flatten, append_assoc
 use Prim.Native.Nat.{ℕ, suc}
 use lib.ListN.{length}
 use lib.Seq.{take-append_seam, drop-append_seam}
+use Rattle.std.specs.Prelude.{Result, Ok, Err}
 use borrow.Author.Tests.{ne_eqb}
+use Rattle.refusals.proofs.Laws.{numbered, one-refusal}
+use Rattle.reel.specs.declared.Stop.{Stop as StopTold}
+use Rattle.reel.specs.declared.Reeled.{Reeled as ReeledTold}
 use Rattle.condition.specs.declared.Condition.{Condition}
 use Rattle.condition.specs.Bytes.{run_of}
 use Rattle.condition.proofs.Good.{Sized, run-sized}
@@ -13,6 +17,7 @@ use Rattle.planner.proofs.Refusals.{plan-delivers}
 use Rattle.reel.specs.Reel.{Stop}
 use Rattle.reel.specs.Reel.{Reeled}
 use Rattle.reel.specs.Reel.{Picture, pictures_of, plan_for, plans_of, first_refused, stop_of, written_by, lengths_of}
+use Rattle.reel.specs.Reel.{stopped, reeled}
 use Rattle.reel.specs.Reel.{reeled_by, refused_at, PicturesInTurn, Promise, Reels}
 use Rattle.reel.proofs.Turns.{first_taken, unrefused}
 
@@ -59,3 +64,22 @@ put c codes cursors out s e h w r after p =
 pub one-reel : (stop : Stop) (c : Condition) (ps : List Picture) (out x y : List ℕ) (r s : Reeled) → Promise stop c ps out x r
     → Promise stop c ps out y s → (r ≡ s) × (x ≡ y)
 one-reel stop c ps out x y r s f g = (f.answer ∙ sym g.answer, f.output ∙ sym g.output)
+
+-- any two answers of the code that are the same in the paper's words are the same
+same-stop : (a b : StopTold) → stopped a ≡ stopped b → a ≡ b
+same-stop a b e =
+    let k : a.picture ≡ b.picture = ap (λ (s : Stop). s.picture) e in
+    let n : a.refusal ≡ b.refusal = one-refusal a.refusal b.refusal (ap (λ (s : Stop). s.refusal) e) in
+    λ i. record { picture = k i; refusal = n i }
+
+same-put : (a b : ReeledTold) → reeled (Ok a) ≡ reeled (Ok b) → a ≡ b
+same-put a b e =
+    let n : a.bytes ≡ b.bytes = ap (λ (r : Reeled). r.bytes) e in
+    let l : a.lengths ≡ b.lengths = ap (λ (r : Reeled). r.lengths) e in
+    λ i. record { bytes = n i; lengths = l i }
+
+pub one-reeled : (r s : Result ReeledTold StopTold) → reeled r ≡ reeled s → r ≡ s
+one-reeled (Ok a) (Ok b) e = ap Ok (same-put a b e)
+one-reeled (Ok a) (Err b) e = absurd (numbered b.refusal (sym (ap (λ (r : Reeled). r.stop.refusal) e)))
+one-reeled (Err a) (Ok b) e = absurd (numbered a.refusal (ap (λ (r : Reeled). r.stop.refusal) e))
+one-reeled (Err a) (Err b) e = ap Err (same-stop a b (ap (λ (r : Reeled). r.stop) e))

@@ -17,7 +17,8 @@ use Rattle.condition.specs.Bytes.{run_of}
 use Rattle.condition.specs.Steps.{either_start}
 use Rattle.planner.specs.Plan.{at_start, pictured, Delivers}
 use Rattle.planner.specs.Answer.{Planned, planned, Plans}
-use Rattle.planner.proofs.Refusals.{numbered, with-room, told}
+use Rattle.planner.proofs.Refusals.{with-room, told}
+use Rattle.refusals.proofs.Laws.{numbered}
 use Rattle.planner.proofs.Putting.{put-behind, put_front}
 use Rattle.reel.specs.Reel.{pictures_of, plan_for, refusal_for, plans_of, first_refused, stop_of, lengths_of, reeled_by}
 use Rattle.reel.specs.Reel.{Stop}

@@ -1,6 +1,6 @@
 use mathlib.Core.Path.{refl, ◌∙◌}
 use Rattle.std.proofs.lemmas.Result.{err_from_is_err_and}
-use Rattle.planner.proofs.Refusals.{numbered}
+use Rattle.refusals.proofs.Laws.{numbered}
 use Rattle.reel.proofs.Turns.{whole-stops, whole-passes, whole-given}
 use Rattle.reel.proofs.check.Goals as goal
 

@@ -1,6 +1,6 @@
 use mathlib.Core.Path.{refl, sym, ◌∙◌}
 use borrow.Author.Rules.{rules}
-use Rattle.planner.proofs.Refusals.{numbered}
+use Rattle.refusals.proofs.Laws.{numbered}
 use Rattle.reel.proofs.Turns.{from_start, goes-on, stops, none-stops}
 use Rattle.reel.proofs.check_pictures.Goals as goal
 

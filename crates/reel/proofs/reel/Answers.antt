@@ -2,7 +2,7 @@ use mathlib.Core.Path.{refl}
 use borrow.Author.Rules.{rules}
 use Rattle.std.proofs.lemmas.Result.{err_from_is_err_and}
 use Rattle.condition.proofs.Good.{Sized}
-use Rattle.planner.proofs.Refusals.{numbered}
+use Rattle.refusals.proofs.Laws.{numbered}
 use Rattle.reel.proofs.Answers.{refused, put}
 use Rattle.reel.proofs.reel.Goals as goal
 use Rattle.reel.proofs.reel.Goals.{Start}
