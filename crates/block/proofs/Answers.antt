@@ -9,9 +9,7 @@ use lib.Seq.{take_at}
 use borrow.Author.Tests.{ne_eqb, lt-ltb, le-ltb}
 use Rattle.std.specs.Prelude.{Option, None, Some}
 use Rattle.refusals.specs.declared.Refusal.{Refusal}
-use Rattle.refusals.specs.declared.Refusal.TheVariants.{WrongLength, Damaged, OutOfRange, TooLong, TallyFull, HalfReceived}
-use Rattle.refusals.specs.declared.Refusal.TheVariants.{WrongMode, UserOnMove, NoCharacter, NoRoom, Lost}
-use Rattle.refusals.specs.Refusals.{number_of, number_or_none}
+use Rattle.refusals.specs.Refusals.{number_or_none}
 use Rattle.condition.specs.declared.Condition.{Condition}
 use Rattle.condition.specs.Condition.{well_formed, Outcome}
 use Rattle.layout.specs.Layout.{unpacked_of}
@@ -25,20 +23,7 @@ use Rattle.block.proofs.RoundTrip.{reread, rewritten, read-formed}
 
 -- Refusals -----------------------------------------------------------------------------------------------------------------
 
--- no refusal has the number 0, and no other answer
-pub number-of-one : (e : Refusal) → number_of e ≡ 0 → ⊥
-number-of-one WrongLength h = omega arith
-number-of-one Damaged h = omega arith
-number-of-one OutOfRange h = omega arith
-number-of-one TooLong h = omega arith
-number-of-one TallyFull h = omega arith
-number-of-one HalfReceived h = omega arith
-number-of-one WrongMode h = omega arith
-number-of-one UserOnMove h = omega arith
-number-of-one NoCharacter h = omega arith
-number-of-one NoRoom h = omega arith
-number-of-one Lost h = omega arith
-
+-- no refusal
 pub number-of-none : (r : Option Refusal) → ((e : Refusal) → r ≡ Some e → ⊥) → number_or_none r ≡ 0
 number-of-none None h = refl
 number-of-none (Some e) h = absurd (h e refl)

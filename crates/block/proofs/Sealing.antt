@@ -1,13 +1,12 @@
 -- The lengths of a block's parts, what the check weighs, and the block put over a buffer.
-use Prim.Native.Nat.{ℕ, zero, suc, ◌+◌, ◌*◌, ◌/◌, ◌%◌, ◌≤◌, ◌<◌}
+use Prim.Native.Nat.{ℕ, zero, suc, ◌+◌, ◌*◌, ◌/◌, ◌%◌, ◌-◌, ◌≤◌, ◌<◌}
 use mathlib.Core.Path.{◌≡◌, refl, ap, sym, ◌∙◌}
-use mathlib.Core.Bool.{Bool, true, false, cond}
-use mathlib.Core.List.{List, [], ◌∷◌, ◌++◌, append_assoc, append-nil}
+use mathlib.Core.Bool.{Bool, true, false, cond, ◌&&◌, and-true}
+use mathlib.Core.List.{List, [], ◌∷◌, ◌++◌, append-nil}
 use native.Mathlib.Omega.{arith}
-use lib.ListN.{length, get_or, take, drop, set, replicate, length-append, drop_of_length-le}
-use lib.Seq.{drop-drop, drop_at, take_at, take_all, take-add, set_at, append_snoc}
+use lib.ListN.{length, get_or, take, drop, replicate, length-append, length-drop, drop_of_length-le}
+use lib.Seq.{drop-drop, take_at, take_all, take-add}
 use borrow.Author.Tests.{lt-ltb, le-ltb}
-use Rattle.row.specs.Row.{laid}
 use Rattle.condition.specs.declared.Condition.{Condition}
 use Rattle.row.specs.Row.{all_up_to}
 use Rattle.row.proofs.Ranges.{all-zero}
@@ -17,6 +16,13 @@ use Rattle.block.specs.Tidy.{rest_zero}
 use Rattle.condition.proofs.Good.{Sized}
 use Rattle.laws.proofs.Lists.{part_length, bytewise}
 use Rattle.layout.proofs.PackedBack.{length-packed}
+use Rattle.layout.proofs.Parts.{behind}
+use borrow.Rule.Slice.PartMut.{put_mid, mid_of}
+use borrow.Author.Rules.{rules}
+use mir.Syntax.{w16}
+use Rattle.std.specs.Int.{to_le_bytes}
+use Rattle.std.specs.Cmp.Lexicographic.{pointwise}
+use lib.Dec.{eqb}
 
 pub length-body : (c : Condition) → Sized c → length (body_of c) ≡ 510
 unfolding body_of
@@ -66,19 +72,44 @@ pub check-body : (b e : List ℕ) → length b ≡ 510 → check_of (b ++ e) ≡
 unfolding check_of
 check-body b e h = rw (take_at b e 510 h, take_all 510 b (omega arith))
 
--- two stores put the check behind the body b, in the place of x and y
-sealing : (b r : List ℕ) (k x y : ℕ) → length b ≡ 510 → k ≡ check_of b
-    → set (set (b ++ (x ∷ y ∷ r)) 510 (k % 256)) 511 (k / 256) ≡ seal_of b ++ r
-unfolding seal_of
-sealing b r k x y h e =
-    let p : List ℕ = b ++ (k % 256 ∷ []) in
-    let long : length p ≡ 511 = length-append b (k % 256 ∷ []) ∙ (omega arith) in
-    let one : set (b ++ (x ∷ y ∷ r)) 510 (k % 256) ≡ p ++ (y ∷ r) =
-    set_at b x (y ∷ r) (k % 256) 510 h ∙ sym (append_snoc b (k % 256) (y ∷ r)) in
-    let two : set (set (b ++ (x ∷ y ∷ r)) 510 (k % 256)) 511 (k / 256) ≡ p ++ (k / 256 ∷ r) =
-    ap (λ (l : List ℕ). set l 511 (k / 256)) one ∙ set_at p y r (k / 256) 511 long in
-    two ∙ append_snoc b (k % 256) (k / 256 ∷ r) ∙ ap (λ (n : ℕ). b ++ (n % 256 ∷ n / 256 ∷ r)) e
-    ∙ sym (append_assoc b (check_of b % 256 ∷ check_of b / 256 ∷ []) r)
+-- Bytes 0 to 2 and the check, as rows ---------------------------------------------------------------------------------------
+
+eqb-swap : (m n : ℕ) → eqb m n ≡ eqb n m
+eqb-swap m n = search rules
+
+first-three : (b : List ℕ) (x y z : ℕ) → length b ≡ 512
+    → pointwise eqb (x ∷ y ∷ z ∷ []) (take 3 b) ≡ (eqb (get_or b 0 0) x && (eqb (get_or b 1 0) y && (eqb (get_or b 2 0) z && true)))
+first-three b x y z h =
+    let e : take 3 b ≡ get_or b 0 0 ∷ get_or b 1 0 ∷ get_or b 2 0 ∷ [] = ap (take 3) (bytewise 3 0 b (omega arith)) in
+    rw (e, eqb-swap x (get_or b 0 0), eqb-swap y (get_or b 1 0), eqb-swap z (get_or b 2 0))
+
+-- the check as two bytes, the low one first
+pub check-bytes : (n : ℕ) → n < 65536 → to_le_bytes w16 n ≡ n % 256 ∷ n / 256 ∷ []
+check-bytes n h =
+    let e : n / 256 % 256 ≡ n / 256 = omega arith in
+    ap (λ (k : ℕ). n % 256 ∷ k ∷ []) e
+
+last-two : (b : List ℕ) (x y : ℕ) → length b ≡ 512
+    → pointwise eqb (x ∷ y ∷ []) (drop (length b - 2) b) ≡ (eqb (get_or b 510 0) x && (eqb (get_or b 511 0) y && true))
+last-two b x y h =
+    let n : length b - 2 ≡ 510 = omega arith in
+    let l : length b ≤ 512 = omega arith in
+    let e : drop 510 b ≡ get_or b 510 0 ∷ get_or b 511 0 ∷ [] = bytewise 2 510 b (omega arith) ∙ rw (drop_of_length-le b l) refl in
+    rw (n, e, eqb-swap x (get_or b 510 0), eqb-swap y (get_or b 511 0))
+
+regroup : (p q r s t : Bool) → ((p && (q && (r && true))) && (s && (t && true))) ≡ (p && q && r && s && t)
+regroup false q r s t = refl
+regroup true false r s t = refl
+regroup true true false s t = refl
+regroup true true true false t = refl
+regroup true true true true t = and-true t
+
+pub same-ends : (b : List ℕ) (x y z v w : ℕ) → length b ≡ 512
+    → (pointwise eqb (x ∷ y ∷ z ∷ []) (take 3 b) && pointwise eqb (v ∷ w ∷ []) (drop (length b - 2) b))
+    ≡ (eqb (get_or b 0 0) x && eqb (get_or b 1 0) y && eqb (get_or b 2 0) z && eqb (get_or b 510 0) v && eqb (get_or b 511 0) w)
+same-ends b x y z v w h =
+    rw (first-three b x y z h, last-two b v w h)
+    (regroup (eqb (get_or b 0 0) x) (eqb (get_or b 1 0) y) (eqb (get_or b 2 0) z) (eqb (get_or b 510 0) v) (eqb (get_or b 511 0) w))
 
 -- A block over the start of a buffer ---------------------------------------------------------------------------------------
 
@@ -97,22 +128,19 @@ put_whole c out h =
     put-room c out (omega arith) ∙ rw (drop_of_length-le out le, append-nil (block_of c))
 
 -- the packed condition is copied there, the bytes behind it are cleared, and the check is put behind these
-pub put-block : (c : Condition) → Sized c → (out first l x : List ℕ) (w : ℕ) → 512 ≤ length out → first ≡ packed_of c
-    → w ≡ weigh 1 first → l ≡ laid first out → x ≡ replicate (length (take 310 (drop 200 l))) 0
-    → set (set (take 200 l ++ (x ++ drop 310 (drop 200 l))) 510 (w % 65521 % 256)) 511 (w % 65521 / 256) ≡ put_over c out
-unfolding laid check_of body_of block_of
-put-block c z out first l x w h ef ew el ex =
-    let n : length first ≡ 200 = ap length ef ∙ length-packed c z in
-    let a : length first ≤ length out = omega arith in
-    let f : l ≡ first ++ drop 200 out = el ∙ rw (take_all (length out) first a, n) in
-    let t : take 200 l ≡ packed_of c = ap (take 200) f ∙ take_at first (drop 200 out) 200 n ∙ ef in
-    let g : drop 200 l ≡ drop 200 out = ap (drop 200) f ∙ drop_at first (drop 200 out) 200 n in
-    let m : length (take 310 (drop 200 out)) ≡ 310 = part_length 200 310 out (omega arith) in
-    let y : x ≡ replicate 310 0 = rw (g, m) at ex in
-    let d : drop 310 (drop 200 l) ≡ get_or out 510 0 ∷ get_or out 511 0 ∷ drop 512 out =
-    ap (drop 310) g ∙ drop-drop 310 200 out ∙ bytewise 2 510 out h in
+pub put-block : (c : Condition) → Sized c → (out zeros check : List ℕ) (w : ℕ) → 512 ≤ length out
+    → w ≡ weigh 1 (packed_of c) % 65521 → zeros ≡ replicate (length (mid_of 200 310 (packed_of c ++ drop 200 out))) 0
+    → check ≡ w % 256 ∷ w / 256 ∷ []
+    → put_mid 510 2 (put_mid 200 310 (packed_of c ++ drop 200 out) zeros) check ≡ put_over c out
+unfolding check_of body_of seal_of block_of
+put-block c z out zeros check w h ew ez ek =
+    let p : List ℕ = packed_of c in
+    let n : length p ≡ 200 = length-packed c z in
+    let m : length (mid_of 200 310 (p ++ drop 200 out)) ≡ 310 =
+    part_length 200 310 (p ++ drop 200 out) (simp (length-append, length-drop) (omega arith)) in
     let b : take 510 (body_of c) ≡ body_of c = take_all 510 (body_of c) (omega (arith, length-body c z)) in
-    let k : w % 65521 ≡ check_of (body_of c) = rw (b, weigh-over (packed_of c) 1 310, ew, ef) in
-    rw (t, y, d, ← append_assoc (packed_of c) (replicate 310 0) (get_or out 510 0 ∷ get_or out 511 0 ∷ drop 512 out))
-    (sealing (body_of c) (drop 512 out) (w % 65521) (get_or out 510 0) (get_or out 511 0) (length-body c z) k
-    ∙ sym (put-room c out h))
+    let k : w ≡ check_of (body_of c) = rw (b, weigh-over p 1 310) ew in
+    let f : put_mid 200 310 (p ++ drop 200 out) zeros ≡ body_of c ++ drop 310 (drop 200 out) =
+    rw (ez, m) (behind (p ++ drop 200 out) p (drop 200 out) (replicate 310 0) 200 310 refl n) in
+    behind (put_mid 200 310 (p ++ drop 200 out) zeros) (body_of c) (drop 310 (drop 200 out)) check 510 2 f (length-body c z)
+    ∙ rw (ek, k, drop-drop 310 200 out, drop-drop 2 510 out) (sym (put-room c out h))

@@ -39,19 +39,12 @@ fn is_rest_zero(block: &[u8]) -> bool
     row::up_to(0, &block[layout::PACKED..CHECK])
 }
 
-// How many bytes the check weighs: zeros behind the first 200 weigh nothing.
-fn weighty(zeros: bool) -> usize
-    ensures { (result ≡ cond zeros 200 510) × (result ≤ 510) }
-{
-    if zeros { layout::PACKED } else { CHECK }
-}
-
-// The check, where it is known whether the unused bytes 200 to 509 are 0.
+// The check, where it is known whether the unused bytes 200 to 509 are 0: zeros behind the first 200 weigh nothing.
 fn check_by(block: &[u8], zeros: bool) -> u32
     requires { (510 ≤ length block.now) × (zeros ≡ rest_zero block.now) }
     ensures { result ≡ check_of block.now }
 {
-    let n = weighty(zeros);
+    let n = if zeros { layout::PACKED } else { CHECK };
     weighed(&block[..n]) % MODULUS
 }
 
@@ -76,11 +69,10 @@ pub fn put(c: Condition, out: &mut [u8])
         return;
     }
     let first = layout::packed(c);
-    let sum = weighed(&first) % MODULUS;
-    row::copy(out, &first);
-    row::clear(&mut out[layout::PACKED..CHECK], 0);
-    out[CHECK] = (sum % 256) as u8;
-    out[CHECK + 1] = (sum / 256) as u8;
+    let check = (weighed(&first) % MODULUS) as u16;
+    out[..layout::PACKED].copy_from_slice(&first);
+    out[layout::PACKED..CHECK].fill(0);
+    out[CHECK..LENGTH].copy_from_slice(&check.to_le_bytes());
 }
 
 // A condition is written as a block at the start of a buffer: Ok of the length written.
@@ -98,15 +90,12 @@ pub fn write(c: Condition, out: &mut [u8]) -> Result<u16, Refusal>
 }
 
 // Bytes 0 to 2 and the check, which is to be `sum`, are as they should be.
-fn is_intact(block: &[u8], sum: u32) -> bool
-    requires { (length block.now ≡ 512) × (sum ≡ check_of block.now) }
+fn is_intact(block: &[u8; LENGTH], sum: u32) -> bool
+    requires { sum ≡ check_of block.now }
     ensures { result ≡ intact block.now }
 {
-    (block[0] == layout::FIRST)
-        & (block[1] == layout::SECOND)
-        & (block[2] == layout::THIRD)
-        & (block[CHECK] == (sum % 256) as u8)
-        & (block[CHECK + 1] == (sum / 256) as u8)
+    let check = (sum as u16).to_le_bytes();
+    block.starts_with(&[layout::FIRST, layout::SECOND, layout::THIRD]) & block.ends_with(&check)
 }
 
 fn kind_good(kind: u8, code: u8, holds: u8) -> bool
@@ -119,8 +108,8 @@ fn kind_good(kind: u8, code: u8, holds: u8) -> bool
 }
 
 // Flags are 0 or 1, the kind is 0 to 6, and what is unused is 0; of bytes 200 to 509 it is known.
-fn is_tidy(block: &[u8], zeros: bool) -> bool
-    requires { (length block.now ≡ 512) × (zeros ≡ rest_zero block.now) }
+fn is_tidy(block: &[u8; LENGTH], zeros: bool) -> bool
+    requires { zeros ≡ rest_zero block.now }
     ensures { result ≡ tidy block.now }
 {
     (block[layout::SCROLLING] <= 1)
@@ -141,9 +130,9 @@ fn is_tidy(block: &[u8], zeros: bool) -> bool
 pub fn damage(block: &[u8]) -> Option<Refusal>
     ensures { number_or_none result ≡ damage_of block.now }
 {
-    if block.len() != LENGTH {
+    let Some(block) = block.as_array() else {
         return Some(Refusal::WrongLength);
-    }
+    };
     let zeros = is_rest_zero(block);
     let sum = check_by(block, zeros);
     let intact = is_intact(block, sum);

@@ -49,7 +49,7 @@ module _ (p q w z : List ℕ) (hp : length p ≡ 40) (hq : length q ≡ 40) (hw 
 -- Laid one after the other -----------------------------------------------------------------------------------------------------
 
 -- the next part q, laid behind p
-behind : (l p t q : List ℕ) (a n : ℕ) → l ≡ p ++ t → length p ≡ a → put_mid a n l q ≡ (p ++ q) ++ drop n t
+pub behind : (l p t q : List ℕ) (a n : ℕ) → l ≡ p ++ t → length p ≡ a → put_mid a n l q ≡ (p ++ q) ++ drop n t
 behind l p t q a n e hp = rw (e, take_at p t a hp, drop_at p t a hp) (sym (append_assoc p q (drop n t)))
 
 -- four parts that fill 200 bytes

@@ -4,4 +4,4 @@ use Rattle.block.proofs.is_tidy.Goals as goal
 pub returns : goal.returns
 unfolding tidy
 returns c =
-    rw (c.up_to.ensures, c.kind_good.ensures, c.requires.1)
+    rw (c.up_to.ensures, c.kind_good.ensures, c.requires)

@@ -1,7 +1,10 @@
 use Rattle.condition.proofs.Good.{Sized}
-use Rattle.block.proofs.Sealing.{put-short, put-block}
+use Rattle.layout.proofs.PackedBack.{length-packed}
+use Rattle.block.proofs.Sealing.{put-short, put-block, check-bytes}
 use native.Mathlib.Omega.{arith}
-use lib.ListN.{length-set}
+use lib.ListN.{length-take}
+use Prim.Native.Nat.{◌%◌}
+use mathlib.Core.Path.{refl, ◌∙◌}
 use borrow.Author.Rules.{rules}
 use Rattle.block.proofs.put.Goals as goal
 use Rattle.block.proofs.put.Goals.{Start}
@@ -12,13 +15,16 @@ sized c = record { codes-40 = search rules; fonts-40 = search rules; users-96 = 
 pub returns-then-room-lt-LENGTH : goal.returns-then-room-lt-LENGTH
 returns-then-room-lt-LENGTH c = put-short _ _ c.if-room-lt-LENGTH.true
 
-pub bounds-out : goal.bounds-out
-bounds-out c = simp length-set (omega arith)
+pub slice_bounds-copy_from_slice-end-2 : goal.slice_bounds-copy_from_slice-end-2
+slice_bounds-copy_from_slice-end-2 c = simp length-take (omega arith)
 
-pub shape_of-out : goal.shape_of-out
-shape_of-out c = simp length-set (omega arith)
+pub copy_from_slice-requires : goal.copy_from_slice-requires
+copy_from_slice-requires c =
+    rw c.packed-first.ensures
+    (simp length-take (omega (arith, length-packed c.args.c (sized (goal.at.copy_from_slice-requires c).Start))))
 
 pub returns : goal.returns
 returns c =
-    put-block _ (sized (goal.at.returns c).Start) _ _ _ _ _ c.if-room-lt-LENGTH.false c.packed-first.ensures c.weighed-sum.ensures
-    c.copy.ensures c.clear.ensures
+    rw (c.copy_from_slice.ensures.after, c.packed-first.ensures)
+    (put-block c.args.c (sized (goal.at.returns c).Start) c.args.out.now _ _ (c.weighed.result % 65521) c.if-room-lt-LENGTH.false
+    (rw (c.weighed.ensures, c.packed-first.ensures) refl) (search rules) (rw c.copy_from_slice-2.ensures.after (c.to_le_bytes.ensures ∙ check-bytes _ (omega arith))))

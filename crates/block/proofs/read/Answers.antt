@@ -1,9 +1,10 @@
 use mathlib.Core.Path.{refl}
-use Rattle.block.proofs.Answers.{damaged-read, unformed, taken, number-of-one, number-of-none}
+use Rattle.block.proofs.Answers.{damaged-read, unformed, taken, number-of-none}
+use Rattle.refusals.proofs.Laws.{numbered}
 use Rattle.block.proofs.read.Goals as goal
 
 pub returns-in-Some : goal.returns-in-Some
-returns-in-Some c = damaged-read _ _ _ c.in-Some.ensures (number-of-one c.in-Some.refusal) refl
+returns-in-Some c = damaged-read _ _ _ c.in-Some.ensures (numbered c.in-Some.refusal) refl
 
 pub returns-else-is_formed : goal.returns-else-is_formed
 returns-else-is_formed c =
