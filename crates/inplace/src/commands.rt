@@ -26,6 +26,8 @@ fn left(s: &mut [u8; PACKED])
 }
 
 // The column of a place is below 19. Two comparisons are quicker than a remainder.
+// (That the cursor is below 40 stands in seven contracts. A type that holds it would have it shown again at each of the thirty
+// stores that leave the cursor alone; as it is, `run_in` shows it once a byte.)
 pub(crate) fn below_19(x: u8) -> bool
     requires { x < 40 }
     ensures { result ≡ ltb (x % 20) 19 }
