@@ -10,12 +10,12 @@ use native.Mathlib.Nat.{div-lt_iff_lt-mul, le-div_iff_mul-le, pow-suc, pow-le-po
 use lib.Dec.{eqb, ltb, leb, lit<}
 use lib.ListN.{length, take, drop, length-append, length-take, length-drop, drop_of_length-le, take-append-drop}
 use lib.Seq.{take_at, take_all, take-append-add, drop-append-add, length-take-le}
-use borrow.Author.Tests.{lt-ltb, le-ltb, leb-true, leb-false}
+use borrow.Author.Tests.{ne_eqb, lt-ltb, le-ltb, leb-true, leb-false}
 use Rattle.laws.proofs.Tests.{by_cases, by-test}
 use Rattle.row.specs.Row.{laid}
 use Rattle.row.proofs.Laws.{laid_none, laid-empty, laid_both}
 use Rattle.io.specs.Digits.{last_digits, IsDigitCount}
-use Rattle.interpreter.specs.declared.Ran.{Ran}
+use Rattle.interpreter.specs.Run.{Ran}
 use Rattle.lines.specs.declared.Text.{Text}
 use Rattle.lines.specs.Lines.{Added, Adds, each, digit, decimal_in, decimal_of, tally_line, refused_line, end_start, end_of, print_of}
 use Rattle.lines.specs.Lines.{code_text, hex_line, cell_lines}
@@ -223,3 +223,11 @@ print-length body r =
     let last = decimal-length t.worst in
     simp length-append (omega (arith, first, decimal-length t.busy, decimal-length t.flickerless, last)))
     (λ _. simp length-append (omega (arith, decimal-length r.refusal)))
+
+-- a refusal alone, over whatever stands there
+pub printed-alone : {a d : List ℕ} {n : ℕ} (body : List ℕ) (k : ℕ) (r : Ran) → (r.refusal ≡ 0 → ⊥)
+    → Added a (end_start r k) (end_of r) d n → 29 ≤ length a → (take n d ≡ print_of body r) × (n ≤ length d)
+unfolding end_start end_of print_of
+printed-alone {a} {d} {n} body k r h q l =
+    let t = ne_eqb _ _ h in
+    rw t (whole-added (rw t at q) (le_trans (refused-length r.refusal) l))

@@ -6,8 +6,7 @@ use Prim.Native.String.{String, [] as []ˢ, ◌∷◌ as ◌∷ˢ◌}
 use Rattle.row.specs.Row.{laid}
 use Rattle.condition.specs.Condition.{power_up}
 use Rattle.interpreter.specs.declared.Tally.{Tally}
-use Rattle.interpreter.specs.declared.Ran.{Ran}
-use Rattle.interpreter.specs.Run.{zero_tally, run_answer}
+use Rattle.interpreter.specs.Run.{Ran, zero_tally, run_answer}
 use Rattle.lines.specs.declared.Text.{Text}
 
 -- a text as bytes, one for each character (the texts here are ASCII)

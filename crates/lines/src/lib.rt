@@ -2,12 +2,16 @@
 #![tactic(auto)]
 
 ghost use Rattle.std.specs.Prelude.{◌≡◌, ◌++◌, ◌<◌, length, take};
+ghost use Rattle.condition.specs.declared.Condition.{Condition};
+ghost use Rattle.interpreter.specs.declared.Tally.{Tally};
+ghost use Rattle.interpreter.specs.Run.{ran};
 ghost use Rattle.lines.specs.Lines.{Adds, hex_digit, hex_of, last_digit, numbered, Ends};
 ghost use Rattle.lines.specs.Lines.{separator_of, hex_line, cell_lines, refused_line};
 
 mod system;
 
 use interpreter::Ran;
+use refusals::Refusal;
 use std::fmt;
 pub use system::{EIO, PATH, arg, fail, has_args, open, path, read_full, say};
 
@@ -114,18 +118,22 @@ impl<'a> Text<'a> {
     }
 
     // What ends the print of a run: its tally, or its refusal alone.
-    pub fn end(&mut self, r: Ran)
-        ensures { Ends self.old r self.new }
+    pub fn end(&mut self, run: Result<Ran, Refusal>)
+        ensures { (c : Condition) (t : Tally) → Ends self.old (ran c t run) self.new }
     {
-        if r.refusal != 0 {
-            self.size = 0;
-            return self.refused(r.refusal as u32);
+        match run {
+            Ok(ran) => {
+                self.number(b"bytes ", ran.tally.bytes as u64);
+                self.number(b" busy ", ran.tally.busy as u64);
+                self.number(b" flickerless ", ran.tally.flickerless as u64);
+                self.number(b" worst ", ran.tally.worst as u64);
+                self.word(b"\n");
+            }
+            Err(refusal) => {
+                self.size = 0;
+                self.refused(refusal.into());
+            }
         }
-        self.number(b"bytes ", r.tally.bytes as u64);
-        self.number(b" busy ", r.tally.busy as u64);
-        self.number(b" flickerless ", r.tally.flickerless as u64);
-        self.number(b" worst ", r.tally.worst as u64);
-        self.word(b"\n");
     }
 }
 

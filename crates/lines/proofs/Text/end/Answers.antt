@@ -1,16 +1,19 @@
 use Rattle.lines.specs.Lines.{end_start, end_of, tally_line}
+use Rattle.refusals.proofs.Laws.{numbered}
 use Rattle.lines.proofs.Laws.{both-adds}
-use borrow.Author.Tests.{eq-eqb, ne_eqb}
+use borrow.Author.Tests.{ne_eqb}
 use Rattle.lines.proofs.Text.end.Goals as goal
 
-pub returns-then-r-ne0 : goal.returns-then-r-ne0
-unfolding end_start end_of
-returns-then-r-ne0 c =
-    record { same = c.refused.ensures.same; added = rw (ne_eqb _ _ c.if-r-ne0.true) c.refused.ensures.added }
-
-pub returns : goal.returns
+pub returns-in-Ok : goal.returns-in-Ok
 unfolding end_start end_of tally_line
-returns c =
-    let last = both-adds c.number-4.ensures c.word.ensures in
-    let all = both-adds c.number.ensures (both-adds c.number-2.ensures (both-adds c.number-3.ensures last)) in
-    record { same = all.same; added = rw (eq-eqb _ _ c.if-r-ne0.false) all.added }
+returns-in-Ok c = λ condition t.
+    let last = both-adds c.number-in-Ok-3.ensures c.word.ensures in
+    let all = both-adds c.number.ensures (both-adds c.number-in-Ok.ensures (both-adds c.number-in-Ok-2.ensures last)) in
+    rw c.in-Ok.is (record { same = all.same; added = all.added })
+
+pub returns-in-Err : goal.returns-in-Err
+unfolding end_start end_of
+returns-in-Err c = λ condition t.
+    let alone = rw c.into.ensures at c.refused.ensures in
+    let other = ne_eqb _ _ (numbered c.in-Err.refusal) in
+    rw c.in-Err.is (record { same = alone.same; added = rw other alone.added })
