@@ -1,5 +1,5 @@
 -- The bytes of a way of each kind, put at the start of a buffer: the first of three.
-use mathlib.Core.Path.{◌≡◌, refl, sym, ap, subst⁻¹, ◌∙◌}
+use mathlib.Core.Path.{◌≡◌, sym, ap, subst⁻¹, ◌∙◌}
 use mathlib.Core.Logic.{◌≢◌}
 use mathlib.Core.List.{List, [], ◌∷◌, ◌++◌, append-nil}
 use mathlib.Core.Bool.{false, cond}
@@ -11,8 +11,6 @@ use lib.Seq.{sets, sets-eq, set-set, take_all, take-append_seam, take-append-add
 use borrow.Author.Tests.{eq-eqb, ne_eqb, lt-ltb}
 use Rattle.laws.proofs.Tests.{by-test}
 use Rattle.laws.proofs.Lists.{take-replicate}
-use Rattle.row.specs.Row.{laid}
-use Rattle.row.proofs.Laws.{laid-empty}
 use Rattle.moves.specs.Moves.{places, dist, fewest_of}
 use Rattle.moves.specs.Ways.{path, way_of, Shortest, PutsWay}
 use Rattle.moves.specs.Kinds.{line_of, column_of, apart, aside, onward, sideways, to_start, from_start}
@@ -20,22 +18,23 @@ use Rattle.moves.proofs.Moving.{length-path}
 use Rattle.moves.proofs.Strings.{shortest}
 use Rattle.moves.proofs.Four.{onward-length, sideways-within, sideways-across, start-sum}
 
--- What is laid over the start -----------------------------------------------------------------------------------------------------
+-- The first n of three ------------------------------------------------------------------------------------------------------------
 
-sets-nil : (i : ℕ) (xs : List ℕ) → sets [] i xs ≡ []
-sets-nil i [] = refl
-sets-nil i (x ∷ xs) = sets-nil (suc i) xs
+module _ (d : List ℕ) (n x y z : ℕ) where
+  abbrev Three : List ℕ → Type 0
+  Three o = o ≡ sets d 0 (take n (x ∷ y ∷ z ∷ []))
 
-sets-cons : (y : ℕ) (d : List ℕ) (i : ℕ) (xs : List ℕ) → sets (y ∷ d) (suc i) xs ≡ y ∷ sets d i xs
-sets-cons y d i [] = refl
-sets-cons y d i (x ∷ xs) = sets-cons y (set d i x) (suc i) xs
+  pub put-none : n ≡ 0 → Three d
+  put-none e = rw e
 
--- it is stored place by place
-pub laid-sets : (xs d : List ℕ) → laid xs d ≡ sets d 0 xs
-unfolding laid
-laid-sets [] d = laid-empty d
-laid-sets (x ∷ xs) [] = sym (sets-nil 1 xs)
-laid-sets (x ∷ xs) (y ∷ d) = ap (λ (l : List ℕ). x ∷ l) (laid-sets xs d) ∙ sym (sets-cons x d 0 xs)
+  pub put_one : (o : List ℕ) → o ≡ set d 0 x → n ≡ 1 → Three o
+  put_one o h e = rw e h
+
+  pub put_two : (o₁ o : List ℕ) → o₁ ≡ set d 0 x → o ≡ set o₁ 1 y → n ≡ 2 → Three o
+  put_two o₁ o h₁ h e = rw (e, ← h₁) h
+
+  pub put_all : (o₁ o₂ o : List ℕ) → o₁ ≡ set d 0 x → o₂ ≡ set o₁ 1 y → o ≡ set o₂ 2 z → 3 ≤ n → Three o
+  put_all o₁ o₂ o h₁ h₂ h l = rw (take_all n (x ∷ y ∷ z ∷ []) l, ← h₁, ← h₂) h
 
 -- what is put, in other words
 pub put_as : (d o xs ys : List ℕ) → o ≡ sets d 0 xs → xs ≡ ys → o ≡ sets d 0 ys

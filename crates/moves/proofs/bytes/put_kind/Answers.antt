@@ -13,7 +13,7 @@ use Rattle.moves.proofs.bytes.put_kind.Goals as goal
 pub returns-then-onward-n : goal.returns-then-onward-n
 returns-then-onward-n c =
     let a = c.args in
-    put_as _ _ _ _ c.put_first.ensures
+    put_as _ _ _ _ c.put_three.ensures
     (is-onward a.n a.from a.to (omega arith) (omega (arith, path-most a.from a.to))
     ∙ sym (by-onward a.from a.to (search rules) (search rules) (omega arith)))
 
@@ -44,11 +44,5 @@ returns-else-from_start-n c =
     let a = c.args in
     let far : path a.from a.to ≡ jump a.to =
     by_jump a.from a.to (search rules) (search rules) (λ e. omega arith) (λ e. omega arith) (λ e. omega arith) in
-    put_as _ _ _ _ c.put_first-else-from_start-n.ensures
+    put_as _ _ _ _ c.put_three-else-from_start-n.ensures
     (take_all a.n (jump a.to) (omega (arith, ap length far)) ∙ sym far)
-
-pub put_first-requires : goal.put_first-requires
-put_first-requires c = omega (arith, path-most c.args.from c.args.to)
-
-pub put_first-requires-else-from_start-n : goal.put_first-requires-else-from_start-n
-put_first-requires-else-from_start-n c = omega (arith, path-most c.args.from c.args.to)

@@ -15,12 +15,12 @@ returns-then-line c =
     let a = c.args in
     let across = sideways-across a.from a.to (search rules) (search rules) (λ e. omega arith) in
     c.put.ensures
-    ∙ rw c.put_first.ensures
-    (put-across _ a.n _ a.from a.to _ c.aside.ensures (search rules) (search rules)
+    ∙ rw c.put_three.ensures
+    (put-across _ a.n _ a.from a.to _ c.aside-m.ensures (search rules) (search rules)
     (omega (arith, across)) (search rules) (search rules) (λ e. omega arith))
 
 pub returns-else-line : goal.returns-else-line
 returns-else-line c =
     let a = c.args in
-    put_as _ _ _ _ c.put_first.ensures
-    (is_within a.n _ a.from a.to c.aside.ensures (search rules) (search rules) (omega arith))
+    put_as _ _ _ _ c.put_three.ensures
+    (is_within a.n _ a.from a.to c.aside-m.ensures (search rules) (search rules) (omega arith))
