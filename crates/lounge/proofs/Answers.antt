@@ -8,10 +8,15 @@ use lib.Dec.{eqb, ltb}
 use lib.ListN.{length, length-append}
 use borrow.Author.Tests.{eq-eqb, ne_eqb, lt-ltb, le-ltb, eqb-false, ltb-false, not-false}
 use Rattle.laws.proofs.Tests.{both, passed, number_by}
+use Rattle.std.specs.Prelude.{Result}
+use Rattle.refusals.specs.declared.Refusal.{Refusal}
+use Rattle.refusals.proofs.Laws.{one-answer}
 use Rattle.lounge.specs.declared.Lounge.{Lounge}
+use Rattle.lounge.specs.declared.Seen as cell
+use Rattle.lounge.specs.Shows.{Seen, seen}
 use Rattle.lounge.specs.Condition.{well_formed}
 use Rattle.lounge.specs.Pairs.{run_of}
-use Rattle.lounge.specs.Run.{Ran, kinds_formed, run_refusal, refused_of, accepted_of, run_answer, in_turn, RunPromise}
+use Rattle.lounge.specs.Run.{Ran, ran, kinds_formed, run_refusal, refused_of, accepted_of, run_answer, in_turn, RunPromise}
 use Rattle.lounge.proofs.Turns.{kinds-append, run-append}
 use Rattle.lounge.proofs.Kept.{Sized, Fit, fit, formed, run-kept}
 
@@ -48,6 +53,17 @@ module _ (c : Lounge) (bs : List ℕ) (r : Ran) where
 -- any two answers that the promise allows are equal
 pub one-run : (c : Lounge) (bs : List ℕ) (r s : Ran) → RunPromise c bs r → RunPromise c bs s → r ≡ s
 one-run c bs r s p q = p.answer ∙ sym q.answer
+
+-- and so are any two answers of the code, of a run and of a view
+pub one-ran : (c : Lounge) (bs : List ℕ) (r s : Result Lounge Refusal) → RunPromise c bs (ran c r) → RunPromise c bs (ran c s) → r ≡ s
+one-ran c bs r s p q =
+    one-answer (ran c) (λ a. a.refusal) (λ a. a.condition) (λ _. refl) (λ _. refl) (λ _. refl) r s (one-run c bs (ran c r) (ran c s) p q)
+
+abbrev of-seen : Seen → cell.Seen
+of-seen s = record { shows = s.shows; level = s.level; blinking = s.blinking; underlined = s.underlined }
+
+pub one-seen : (r s : Result cell.Seen Refusal) → seen r ≡ seen s → r ≡ s
+one-seen = one-answer seen (λ a. a.refusal) of-seen (λ _. refl) (λ _. refl) (λ _. refl)
 
 -- One run or several, by whole pairs, end alike -----------------------------------------------------------------------------------
 

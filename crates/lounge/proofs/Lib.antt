@@ -1,5 +1,5 @@
-pub mod Stores
-pub mod Branches
+pub mod Back
+pub mod Areas
 pub mod Turns
 pub mod Kept
 pub mod Answers

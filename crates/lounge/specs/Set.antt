@@ -1,5 +1,5 @@
 -- The condition of the lounge module with a field changed. A whole condition is written here, at reset (Condition.antt) and where
--- it is read from a head and three rows (Head.antt; proofs/Stores.antt: whole-in, head-back), and in no other definition: a new
+-- it is read from a head and three rows (Head.antt; proofs/Back.antt: whole-in, head-back), and in no other definition: a new
 -- field is added at these.
 use Rattle.std.specs.Prelude.{ℕ, List, Bool, false, set}
 use Rattle.users.specs.declared.Users.{Users}

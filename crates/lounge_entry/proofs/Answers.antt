@@ -10,27 +10,11 @@ use borrow.Author.Tests.{eq-eqb, ne_eqb, eqb-true}
 use Rattle.laws.proofs.Tests.{both}
 use Rattle.std.specs.Prelude.{Ok, Err}
 use Rattle.refusals.specs.declared.Refusal.{Refusal}
-use Rattle.refusals.specs.declared.Refusal.TheVariants.{WrongLength, Damaged, OutOfRange, TooLong, TallyFull, HalfReceived}
-use Rattle.refusals.specs.declared.Refusal.TheVariants.{WrongMode, UserOnMove, NoCharacter, NoRoom, Lost}
-use Rattle.refusals.specs.Refusals.{number_of}
+use Rattle.refusals.specs.declared.Refusal.TheVariants.{WrongLength}
 use Rattle.lounge.specs.declared.Lounge.{Lounge}
 use Rattle.lounge.specs.Head.{head_of, lounge_in}
 use Rattle.lounge.specs.Run.{Ran, run_answer}
 use Rattle.lounge_entry.specs.Entry.{sizes_right, condition_in, refusal_in, RunIn}
-
--- a refusal has a number
-pub number-some : (e : Refusal) → number_of e ≡ 0 → ⊥
-number-some WrongLength z = omega arith
-number-some Damaged z = omega arith
-number-some OutOfRange z = omega arith
-number-some TooLong z = omega arith
-number-some TallyFull z = omega arith
-number-some HalfReceived z = omega arith
-number-some WrongMode z = omega arith
-number-some UserOnMove z = omega arith
-number-some NoCharacter z = omega arith
-number-some NoRoom z = omega arith
-number-some Lost z = omega arith
 
 module _ (h codes marks us : List ℕ) where
   pub sizes : sizes_right h codes marks us ≡ true

@@ -8,18 +8,17 @@ use lib.Dec.{eqb, ltb}
 use lib.ListN.{length, take, drop, get_or, length-append, length-take, length-drop}
 use borrow.Author.Tests.{lt-ltb, eqb-false}
 use Rattle.laws.proofs.Tests.{by_cases, by-test, clash}
+use Rattle.std.specs.Prelude.{None}
 use Rattle.laws.specs.Flags.{flag}
 use Rattle.lounge.specs.declared.Lounge.{Lounge}
-use Rattle.lounge.specs.declared.Ran.{Ran}
 use Rattle.lounge.specs.Condition.{well_formed, reset_of}
 use Rattle.lounge.specs.Pairs.{run_of}
-use Rattle.lounge.specs.Run.{kinds_formed, run_refusal, refused_of, run_answer}
+use Rattle.lounge.specs.Run.{Ran, kinds_formed, run_refusal, refused_of, run_answer}
 use Rattle.lounge.proofs.Turns.{kinds-append}
 use Rattle.lounge.proofs.Kept.{Sized, formed, run-kept, reset-fit}
 use Rattle.lines.proofs.Laws.{each-length, decimal-length, hex-length, cells-length}
 use Rattle.lines.specs.Lines.{last_digit}
-use Rattle.show_lounge.specs.declared.Rest.{Rest}
-use Rattle.show_lounge.specs.Rest.{is_some, rest_of, more_of, ran_with, Fits, RanAll, Keeps, ReadBeyond}
+use Rattle.show_lounge.specs.Rest.{Rest, known, is_some, rest_of, more_of, ran_with, Fits, RanAll, Keeps, ReadBeyond}
 use Rattle.show_lounge.specs.Report.{mark_line, mark_lines, place_line, user_line, user_lines, report_of, shown_of, ShownAll}
 
 -- A piece more -------------------------------------------------------------------------------------------------------------------
@@ -43,18 +42,15 @@ keeps rest bs r e = record { answer = e; whole = whole }
         let w = not-both (kinds_formed before) (kinds_formed bs) ∙ ap not (sym (kinds-append before bs h)) in
         e ∙ rw (f, l) (λ i. record { some = s i; odd = eqb (length bs % 2) 1; wrong = w i })
 
--- a piece with bytes
-pub some-by : (bs : List ℕ) (rest : Rest)
-    → ◌≡◌ {A = Rest}
-    (record {
-      some = rest.some || ltb 0 (length bs);
-      odd = eqb (length bs % 2) 1;
-      wrong = rest.wrong || not (kinds_formed bs);
-    })
-    (more_of rest bs)
-unfolding more_of
-some-by [] rest = refl
-some-by (b ∷ bs) rest = rw (lt-ltb 0 (length (b ∷ bs)) (omega arith))
+-- the first of the pieces, with bytes and without
+pub some-first : (bs : List ℕ) → (length bs ≡ 0 → ⊥) → is_some bs ≡ true
+some-first [] h = absurd (h refl)
+some-first (b ∷ bs) h = refl
+
+pub none-first : (bs : List ℕ) → length bs ≡ 0 → known None ≡ more_of (known None) bs
+unfolding more_of kinds_formed
+none-first [] h = refl
+none-first (b ∷ bs) h = absurd (omega arith)
 
 -- All of them --------------------------------------------------------------------------------------------------------------------
 

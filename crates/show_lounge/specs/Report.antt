@@ -3,11 +3,9 @@ use Rattle.std.specs.Prelude.{ℕ, ◌≡◌, cond, List, ◌++◌, length, take
 use Rattle.laws.specs.Flags.{flag}
 use Rattle.users.specs.Users.{place_at}
 use Rattle.lounge.specs.declared.Lounge.{Lounge}
-use Rattle.lounge.specs.declared.Ran.{Ran}
 use Rattle.lounge.specs.Condition.{reset_of}
-use Rattle.lounge.specs.Run.{run_answer}
-use Rattle.show_lounge.specs.declared.Rest.{Rest}
-use Rattle.show_lounge.specs.Rest.{rest_of, ran_with, Fits}
+use Rattle.lounge.specs.Run.{Ran, run_answer}
+use Rattle.show_lounge.specs.Rest.{Rest, rest_of, ran_with, Fits}
 use Rattle.lines.specs.Lines.{text, each, hex_of, last_digit, numbered, new_line, hex_line, cell_lines, refused_line}
 
 -- the marks of a line, a hex digit each with nothing between

@@ -1,14 +1,24 @@
 -- What lies beyond the pairs that a run may have (document 02, W8). It cannot be run, but it decides what the run is refused by: 1
 -- for an odd length comes before 3 for a kind above 1 anywhere, and 3 before 4. So of it only this is kept.
-use Rattle.std.specs.Prelude.{ℕ, ◌%◌, ◌≡◌, Bool, true, false, cond, not, ◌||◌, List, [], ◌∷◌, ◌++◌, length, eqb}
-use Rattle.lounge.specs.declared.Ran.{Ran}
+use Rattle.std.specs.Prelude.{ℕ, Option, None, Some, ◌%◌, ◌≡◌, Bool, true, false, cond, not, ◌||◌, List, [], ◌∷◌, ◌++◌, length, eqb}
 use Rattle.lounge.specs.Condition.{reset_of}
-use Rattle.lounge.specs.Run.{kinds_formed, refused_of, run_answer}
-use Rattle.show_lounge.specs.declared.Rest.{Rest}
+use Rattle.lounge.specs.Run.{Ran, kinds_formed, refused_of, run_answer}
+use Rattle.show_lounge.specs.declared.Rest as kept
 
 abbrev pub is_some : List ℕ → Bool
 is_some [] = false
 is_some (b ∷ bs) = true
+
+-- what is kept of it: whether there is any, whether its length is odd, and whether a kind is above 1
+pub record Rest : Type 0 where
+  pub some : Bool
+  pub odd : Bool
+  pub wrong : Bool
+
+-- what the code keeps of it
+abbrev pub known : Option kept.Rest → Rest
+known None = record { some = false; odd = false; wrong = false }
+known (Some rest) = record { some = true; odd = rest.odd; wrong = rest.wrong }
 
 -- whether there is any, whether its length is odd, and whether a kind is above 1
 unfoldable pub rest_of : List ℕ → Rest

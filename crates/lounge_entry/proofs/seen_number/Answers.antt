@@ -1,6 +1,6 @@
 use borrow.Author.Tests.{ne_eqb}
+use Rattle.refusals.proofs.Laws.{numbered}
 use Rattle.lounge_entry.specs.Entry.{seen_number}
-use Rattle.lounge_entry.proofs.Answers.{number-some}
 use Rattle.lounge_entry.proofs.seen_number.Goals as goal
 
 pub returns-in-Ok : goal.returns-in-Ok
@@ -16,4 +16,4 @@ returns-in-Ok c =
 
 pub returns-in-Err : goal.returns-in-Err
 unfolding seen_number
-returns-in-Err c = rw (c.in-Err.is, c.from.ensures, ne_eqb _ 0 (number-some c.in-Err.refusal))
+returns-in-Err c = rw (c.in-Err.is, c.from.ensures, ne_eqb _ 0 (numbered c.in-Err.refusal))

@@ -1,6 +1,5 @@
-use Rattle.lines.proofs.Laws.{both-added}
+use Rattle.lines.proofs.Laws.{both-adds}
 use Rattle.show_lounge.proofs.add_user.Goals as goal
 
 pub returns : goal.returns
-returns c =
-    both-added c.add_word-at.ensures c.add_codes.ensures
+returns c = both-adds c.word.ensures c.codes.ensures

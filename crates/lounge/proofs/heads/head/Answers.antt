@@ -1,4 +1,4 @@
-use Rattle.lounge.proofs.Stores.{bit-flag}
+use Rattle.lounge.proofs.Back.{bit-flag}
 use Rattle.lounge.specs.Head.{head_of}
 use Rattle.lounge.proofs.heads.head.Goals as goal
 

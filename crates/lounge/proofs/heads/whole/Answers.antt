@@ -1,4 +1,4 @@
-use Rattle.lounge.proofs.Stores.{whole-in}
+use Rattle.lounge.proofs.Back.{whole-in}
 use borrow.Author.Rules.{rules}
 use Rattle.lounge.proofs.heads.whole.Goals as goal
 

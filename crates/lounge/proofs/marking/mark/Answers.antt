@@ -6,7 +6,7 @@ use lib.Dec.{leb}
 use borrow.Author.Tests.{leb-true}
 use Rattle.laws.proofs.Tests.{both}
 use Rattle.lounge.specs.Marks.{is_pair}
-use Rattle.lounge.proofs.Branches.{area-law}
+use Rattle.lounge.proofs.Areas.{area-law}
 use Rattle.lounge.proofs.marking.mark.Goals as goal
 
 -- a pair is in order, and of places
