@@ -1,5 +1,4 @@
-use mathlib.Core.Path.{◌≡◌, sym, ◌∙◌}
-use lib.ListN.{length}
+use mathlib.Core.Path.{sym, ◌∙◌}
 use borrow.Author.Tests.{eqb-true, eqb-false}
 use Rattle.show_lounge.specs.Rest.{more_of}
 use Rattle.show_lounge.proofs.Laws.{keeps, some-first, none-first}

@@ -1,8 +1,3 @@
-use mathlib.Core.Path.{◌≡◌, refl}
-use Rattle.std.specs.Prelude.{Result}
-use Rattle.refusals.specs.declared.Refusal.{Refusal}
-use Rattle.lounge.specs.declared.Lounge.{Lounge}
-use Rattle.lounge.specs.Run.{ran, run_answer}
 use Rattle.show_lounge.specs.Rest.{ran_with}
 use Rattle.show_lounge.proofs.Laws.{ran-all}
 use Rattle.show_lounge.proofs.ran.Goals as goal
