@@ -2,13 +2,11 @@
 use mathlib.Core.Path.{◌≡◌, refl, sym, ap, ◌∙◌}
 use mathlib.Core.Bool.{Bool, true, false, cond, not}
 use mathlib.Core.List.{List}
-use native.Mathlib.Omega.{arith}
 use Rattle.std.specs.Prelude.{Ok, Err}
 use Rattle.refusals.specs.declared.Refusal.{Refusal}
-use Rattle.refusals.specs.declared.Refusal.TheVariants.{WrongLength, Damaged, OutOfRange, TooLong, TallyFull, HalfReceived}
-use Rattle.refusals.specs.declared.Refusal.TheVariants.{WrongMode, UserOnMove, NoCharacter, NoRoom, Lost}
 use Rattle.refusals.specs.Refusals.{number_of}
-use Prim.Native.Nat.{ℕ, ◌≤◌}
+use Rattle.refusals.proofs.Laws.{numbered}
+use Prim.Native.Nat.{ℕ}
 use lib.Dec.{eqb}
 use borrow.Author.Tests.{eq-eqb, ne_eqb}
 use Rattle.laws.proofs.Tests.{number_by}
@@ -19,37 +17,9 @@ use Rattle.block.specs.Reading.{read_refusal, damage_of, refused_of}
 use Rattle.block.proofs.Damaged.{read_by, whole-unpacked}
 use Rattle.host.specs.Host.{opened_of, host_refusal_by}
 
--- a refusal has a number
-pub not-none : (refusal : Refusal) → number_of refusal ≡ 0 → ⊥
-not-none WrongLength z = omega arith
-not-none Damaged z = omega arith
-not-none OutOfRange z = omega arith
-not-none TooLong z = omega arith
-not-none TallyFull z = omega arith
-not-none HalfReceived z = omega arith
-not-none WrongMode z = omega arith
-not-none UserOnMove z = omega arith
-not-none NoCharacter z = omega arith
-not-none NoRoom z = omega arith
-not-none Lost z = omega arith
-
--- none is above 11
-pub most-11 : (refusal : Refusal) → number_of refusal ≤ 11
-most-11 WrongLength = omega arith
-most-11 Damaged = omega arith
-most-11 OutOfRange = omega arith
-most-11 TooLong = omega arith
-most-11 TallyFull = omega arith
-most-11 HalfReceived = omega arith
-most-11 WrongMode = omega arith
-most-11 UserOnMove = omega arith
-most-11 NoCharacter = omega arith
-most-11 NoRoom = omega arith
-most-11 Lost = omega arith
-
 pub opened-damaged : (b : List ℕ) (refusal : Refusal) → number_of refusal ≡ damage_of b → outcome (Err refusal) ≡ opened_of b
 unfolding opened_of
-opened-damaged b refusal d = rw (← d, ne_eqb (number_of refusal) 0 (not-none refusal))
+opened-damaged b refusal d = rw (← d, ne_eqb (number_of refusal) 0 (numbered refusal))
 
 pub opened-whole : (b : List ℕ) (c : Condition) → 0 ≡ damage_of b → c ≡ unpacked_of b → outcome (Ok c) ≡ opened_of b
 unfolding opened_of

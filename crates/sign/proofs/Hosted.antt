@@ -9,27 +9,21 @@ use lib.ListN.{length, take}
 use borrow.Author.Tests.{eq-eqb, ne_eqb, leb-true, eqb-true, eqb-false, not-false}
 use Rattle.laws.proofs.Tests.{by_cases, by_equal, passed}
 use Rattle.condition.specs.declared.Condition.{Condition}
-use Rattle.condition.specs.declared.Outcome.{Outcome}
-use Rattle.condition.specs.Condition.{well_formed, power_up, power_up_answer}
+use Rattle.condition.specs.Condition.{Outcome, well_formed, power_up, power_up_answer}
 use Rattle.condition.proofs.Good.{Sized, Indexed}
 use Rattle.condition.proofs.Kept.{power-up-good, powered, unpowered}
 use Rattle.layout.specs.Layout.{condition_in}
 use Rattle.layout.proofs.PackedBack.{sized-in, indexed-in}
 use Rattle.block.specs.Block.{block_of, put_over}
 use Rattle.block.specs.Reading.{read_refusal}
-use Rattle.block.specs.Writing.{write_refusal, write_answer, write_out, WritePromise}
-use Rattle.block.specs.declared.Written.{Written}
-use Rattle.row.specs.Row.{laid}
-use Rattle.row.proofs.Laws.{filled}
+use Rattle.block.specs.Writing.{Written, write_refusal, write_answer, write_out, WritePromise}
 use Rattle.block.proofs.Sealing.{put_whole}
 use Rattle.block.proofs.Damaged.{whole_length}
 use Rattle.block.proofs.RoundTrip.{condition-back, refusal-of, reread}
 use Rattle.interpreter.specs.declared.Tally.{Tally}
-use Rattle.interpreter.specs.declared.Ran.{Ran}
-use Rattle.interpreter.specs.Run.{limit, RunPromise, run_answer}
+use Rattle.interpreter.specs.Run.{Ran, limit, RunPromise, run_answer}
 use Rattle.interpreter.proofs.Answers.{Within, run-unformed, ran-sized, ran-indexed, ran-within, two_runs}
-use Rattle.planner.specs.declared.Planned.{Planned}
-use Rattle.planner.specs.Answer.{bytes_by, Promise, Plans, PlansFonts}
+use Rattle.planner.specs.Answer.{Planned, bytes_by, Promise, Plans, PlansFonts}
 use Rattle.host.specs.declared.Base.TheVariants.{Plan}
 use Rattle.host.specs.Host.{opened_of, host_refusal_by, host_answer}
 use Rattle.host.proofs.Once.{damaged-by, whole, in_block, left-to}
@@ -107,16 +101,13 @@ module _ (b t bs : List ℕ) (h : length t ≡ 16) where
                 ∙ ap (λ (o : Outcome). o.refusal) (reread r.condition s (q.kept good));
           }
 
-      -- the block is put over the lent one, and the tally is laid over the lent one
-      pub run-written : (b' t' n : List ℕ) → r.refusal ≡ 0 → b' ≡ put_over r.condition b → n ≡ tally_bytes r.tally
-          → t' ≡ laid n t
+      -- the block is put over the lent one, and the tally's numbers are those that are lent
+      pub run-written : (b' t' : List ℕ) → r.refusal ≡ 0 → b' ≡ put_over r.condition b → t' ≡ tally_bytes r.tally
           → HostRun b t bs 0 b' t'
-      unfolding tally_bytes
-      run-written b' t' n good eb en et =
+      run-written b' t' good eb et =
           let room : length b ≡ 512 = whole_length b (whole b g o z) in
           let s : Sized r.condition = rw told (ran-sized (condition_in b) (tally_at t) bs (sized-in b (omega arith))) in
-          let sixteen : length n ≡ 16 = ap length en in
-          run-done b' t' good s (eb ∙ put_whole r.condition b room) (et ∙ filled n t 16 sixteen h ∙ en)
+          run-done b' t' good s (eb ∙ put_whole r.condition b room) et
 
 -- ---- one run or several
 

@@ -17,9 +17,9 @@ use Rattle.block.specs.Block.{block_of}
 use Rattle.block.specs.Reading.{read_refusal}
 use Rattle.block.proofs.Damaged.{read-most}
 use Rattle.block.proofs.RoundTrip.{accepted}
-use Rattle.interpreter.specs.declared.Ran.{Ran}
+use Rattle.interpreter.specs.Run.{Ran}
 use Rattle.interpreter.proofs.Answers.{not-refused}
-use Rattle.planner.specs.declared.Planned.{Planned}
+use Rattle.planner.specs.Answer.{Planned}
 use Rattle.host.specs.declared.Base.TheVariants.{Plan}
 use Rattle.host.specs.Host.{host_refusal_by, host_answer}
 use Rattle.recovery.specs.Recovery.{get_back, PowersUp, NoWayBack, recover_refusal, Recovers}

@@ -8,14 +8,10 @@ use lib.Dec.{eqb}
 use lib.ListN.{length}
 use borrow.Author.Tests.{eq-eqb, ne_eqb}
 use Rattle.laws.proofs.Tests.{by_cases, by_equal}
-use Rattle.row.specs.Row.{laid}
-use Rattle.row.proofs.Laws.{filled}
 use Rattle.condition.specs.declared.Condition.{Condition}
-use Rattle.condition.specs.declared.Outcome.{Outcome}
+use Rattle.condition.specs.Condition.{Outcome}
 use Rattle.layout.specs.Layout.{condition_in}
-use Rattle.reel.specs.declared.Stop.{Stop}
-use Rattle.reel.specs.declared.Reeled.{Reeled}
-use Rattle.reel.specs.Reel.{Picture, matching, naming64, whole_refusal, stop_of, written_by, refused_at, Reels}
+use Rattle.reel.specs.Reel.{Stop, Reeled, Picture, matching, naming64, whole_refusal, stop_of, written_by, refused_at, Reels}
 use Rattle.reel.proofs.Turns.{start-unformed}
 use Rattle.reel.proofs.Answers.{refused}
 use Rattle.host.specs.Host.{opened_of, host_refusal_by}
@@ -69,14 +65,13 @@ module _ (b codes cursors lent out : List ℕ) where
       let e = ne_eqb (length lent) 64 h in
       record { answer = rw e ek; lengths = rw e; buffer = rw e; delivers = λ l. absurd (omega arith) }
 
-  -- what the reel promises, given on, with its lengths laid over those that are lent
+  -- what the reel promises, given on, with its lengths in those that are lent
   pub reel-done : length lent ≡ 64 → (r : Reeled) (left told : List ℕ) (k : ℕ) → ReelsIn b codes cursors out left r
-      → length r.lengths ≡ 64 → told ≡ laid r.lengths lent → k ≡ reel_number r.stop r.bytes
+      → told ≡ r.lengths → k ≡ reel_number r.stop r.bytes
       → HostReel b codes cursors lent out k told left
   unfolding host_reel_stop lengths_after
-  reel-done h r left told k q l et ek =
+  reel-done h r left told k q whole ek =
       let e = eq-eqb (length lent) 64 h in
-      let whole : told ≡ r.lengths = et ∙ filled r.lengths lent 64 l h in
       record {
         answer = rw e (ek ∙ ap (λ (s : Reeled). reel_number s.stop s.bytes) q.answer ∙ written-number _ _);
         lengths = rw e (whole ∙ ap (λ (s : Reeled). s.lengths) q.answer);

@@ -6,8 +6,7 @@ use Prim.Native.Nat.{ℕ, ◌+◌, ◌-◌, ◌≤◌, ◌<◌}
 use native.Mathlib.Omega.{arith}
 use Rattle.laws.proofs.Tests.{clash}
 use Rattle.layout.specs.Layout.{condition_in}
-use Rattle.vetting.specs.declared.Verdict.{Verdict}
-use Rattle.vetting.specs.declared.Verdict.TheVariants.{Refused, Byte, Cell, Cursor, Yes}
+use Rattle.vetting.specs.Verdicts.{Verdict, Refused, Byte, Cell, Cursor, Yes}
 use Rattle.vetting.specs.Vetting.{is_yes, excess_in, Exceeds, VetsBlock}
 use Rattle.vetting.proofs.Answers.{excess-most}
 use Rattle.sign.specs.Calls.{vet_number, HostVet}

@@ -12,19 +12,15 @@ use Rattle.block.specs.Reading.{read_refusal}
 use Rattle.host.specs.declared.Base.TheVariants.{Plan}
 use Rattle.host.specs.Host.{host_refusal_by, host_answer}
 use Rattle.interpreter.specs.declared.Tally.{Tally}
-use Rattle.interpreter.specs.declared.Ran.{Ran}
-use Rattle.interpreter.specs.Run.{run_answer}
+use Rattle.interpreter.specs.Run.{Ran, run_answer}
 use Rattle.planner.specs.Plan.{Delivers}
 use Rattle.planner.specs.Fonts.{FontsDelivers}
 use Rattle.planner.specs.Clear.{either_plan, either_fonts_plan}
 use Rattle.planner.specs.Answer.{plan_refusal, fonts_refusal, out_by}
-use Rattle.reel.specs.declared.Stop.{Stop}
-use Rattle.reel.specs.declared.Reeled.{Reeled}
-use Rattle.reel.specs.Reel.{Picture, pictures_of, plans_of, naming64, matching, first_refused, whole_refusal, written_by}
+use Rattle.reel.specs.Reel.{Stop, Reeled, Picture, pictures_of, plans_of, naming64, matching, first_refused, whole_refusal, written_by}
 use Rattle.reel.specs.Reel.{lengths_of}
 use Rattle.reel.specs.Reel.{reel_out, PicturesInTurn, Promise}
-use Rattle.vetting.specs.declared.Verdict.{Verdict}
-use Rattle.vetting.specs.declared.Verdict.TheVariants.{Refused, Byte, Cell, Cursor, Yes}
+use Rattle.vetting.specs.Verdicts.{Verdict, Refused, Byte, Cell, Cursor, Yes}
 use Rattle.vetting.specs.Vetting.{Gives, Exceeds, block_refusal, block_verdict}
 use Rattle.recovery.specs.Recovery.{get_back, PowersUp, NoWayBack, recover_refusal}
 

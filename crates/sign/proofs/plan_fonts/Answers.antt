@@ -1,5 +1,5 @@
 use mathlib.Core.Path.{◌≡◌, refl}
-use mathlib.Core.Bool.{true, false, ◌&&◌, and-false}
+use mathlib.Core.Bool.{true, ◌&&◌}
 use lib.Dec.{eqb}
 use lib.ListN.{length}
 use borrow.Author.Tests.{eq-eqb, ne_eqb}
@@ -7,7 +7,8 @@ use Rattle.std.proofs.lemmas.Result.{err_from_is_err_and}
 use Rattle.planner.specs.Answer.{fonts_refusal}
 use Rattle.planner.proofs.Refusals.{unformed}
 use Rattle.sign.specs.Calls.{host_fonts_refusal}
-use Rattle.host.proofs.Once.{in_block, not-none}
+use Rattle.host.proofs.Once.{in_block}
+use Rattle.refusals.proofs.Laws.{numbered}
 use Rattle.sign.proofs.Hosted.{plan-short, plan-damaged, plan-done, fonts-in}
 use Rattle.sign.proofs.plan_fonts.Goals as goal
 use Rattle.sign.proofs.plan_fonts.Goals.{then-codes-ne-CELLS-via-then-codes-ne-CELLS, Else-fonts-ne-CELLS}
@@ -24,9 +25,9 @@ pub returns-then-codes-ne-CELLS : goal.returns-then-codes-ne-CELLS
 unfolding host_fonts_refusal
 returns-then-codes-ne-CELLS c =
     elim c.then-codes-ne-CELLS.branch [
-      then-codes-ne-CELLS-via-then-codes-ne-CELLS w ↦ plan-short _ _ _ _ _ _ (rw (ne_eqb _ 40 w.if-codes-ne-CELLS.true))
-    | then-codes-ne-CELLS-via-else-codes-ne-CELLS+then-fonts-ne-CELLS w ↦
-        plan-short _ _ _ _ _ _ (rw (eq-eqb _ 40 w.if-codes-ne-CELLS.false, ne_eqb _ 40 w.if-fonts-ne-CELLS.true))
+      | then-codes-ne-CELLS-via-then-codes-ne-CELLS w ↦ plan-short _ _ _ _ _ _ (rw (ne_eqb _ 40 w.if-codes-ne-CELLS.true))
+      | then-codes-ne-CELLS-via-else-codes-ne-CELLS+then-fonts-ne-CELLS w ↦
+          plan-short _ _ _ _ _ _ (rw (eq-eqb _ 40 w.if-codes-ne-CELLS.false, ne_eqb _ 40 w.if-fonts-ne-CELLS.true))
     ]
 
 pub returns-in_err-c : goal.returns-in_err-c
@@ -34,7 +35,7 @@ unfolding host_fonts_refusal
 returns-in_err-c c =
     let e = err_from_is_err_and c.from_residual.result c.from_residual.ensures.1 in
     rw (e.1, e.2)
-    (plan-damaged _ _ _ _ _ _ (fits (goal.at.returns-in_err-c c).Else-fonts-ne-CELLS) _ c.in_err-c.ensures (not-none _))
+    (plan-damaged _ _ _ _ _ _ (fits (goal.at.returns-in_err-c c).Else-fonts-ne-CELLS) _ c.in_err-c.ensures (numbered _))
 
 pub returns-in_err-length : goal.returns-in_err-length
 unfolding host_fonts_refusal fonts_refusal
@@ -50,4 +51,4 @@ unfolding host_fonts_refusal fonts_refusal
 returns c =
     let fit = fits (goal.at.returns c).Else-fonts-ne-CELLS in
     let p = fonts-in _ _ (in_block _ _ c.in_ok-c.ensures refl) _ _ _ _ _ _ c.in_ok-length.ensures in
-    plan-done _ _ _ _ _ _ fit _ c.in_ok-c.ensures _ _ _ refl (λ w. unformed _ _ _ _ _ _ fit w) p ?
+    plan-done _ _ _ _ _ _ fit _ c.in_ok-c.ensures _ _ _ refl (λ w. unformed _ _ _ _ _ _ fit w) p (rw c.from.ensures)

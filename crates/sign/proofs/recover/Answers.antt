@@ -2,7 +2,8 @@ use mathlib.Core.Path.{refl}
 use Rattle.std.proofs.lemmas.Result.{err_from_is_err_and}
 use Rattle.recovery.proofs.Answers.{unformed}
 use Rattle.sign.specs.Calls.{host_recover_refusal}
-use Rattle.host.proofs.Once.{in_block, not-none}
+use Rattle.host.proofs.Once.{in_block}
+use Rattle.refusals.proofs.Laws.{numbered}
 use Rattle.sign.proofs.Hosted.{plan-damaged, plan-done}
 use Rattle.sign.proofs.Recovered.{host-exactly, recovers-in}
 use Rattle.sign.proofs.recover.Goals as goal
@@ -11,7 +12,7 @@ pub returns-in_err-c : goal.returns-in_err-c
 unfolding host_recover_refusal
 returns-in_err-c c =
     let e = err_from_is_err_and c.from_residual.result c.from_residual.ensures.1 in
-    rw (e.1, e.2) (host-exactly _ _ _ _ (plan-damaged _ _ _ _ _ _ refl _ c.in_err-c.ensures (not-none _)))
+    rw (e.1, e.2) (host-exactly _ _ _ _ (plan-damaged _ _ _ _ _ _ refl _ c.in_err-c.ensures (numbered _)))
 
 pub returns-in_err-length : goal.returns-in_err-length
 unfolding host_recover_refusal
@@ -26,4 +27,4 @@ pub returns : goal.returns
 unfolding host_recover_refusal
 returns c =
     let p = recovers-in _ _ (in_block _ _ c.in_ok-c.ensures refl) _ _ _ c.in_ok-length.ensures in
-    host-exactly _ _ _ _ (plan-done _ _ _ _ _ _ refl _ c.in_ok-c.ensures _ _ _ refl (λ w. unformed _ _ w) p.gives ?)
+    host-exactly _ _ _ _ (plan-done _ _ _ _ _ _ refl _ c.in_ok-c.ensures _ _ _ refl (λ w. unformed _ _ w) p.gives (rw c.from.ensures))

@@ -1,19 +1,21 @@
-use mathlib.Core.Path.{sym, ◌∙◌}
+use mathlib.Core.Path.{refl, sym, ◌∙◌}
+use Rattle.std.proofs.lemmas.Result.{err_from_is_err_and}
+use Rattle.refusals.proofs.Laws.{numbered}
 use Rattle.sign.proofs.Reels.{reel-unmatched, reel-damaged, reel-in}
-use Rattle.sign.proofs.reeled.Goals as goal
+use Rattle.sign.proofs.reel.Goals as goal
 
 pub returns-then-not-matched : goal.returns-then-not-matched
 returns-then-not-matched c =
     let e = sym c.matched.ensures ∙ c.if-not-matched.true in
-    reel-unmatched _ _ _ _ e _ c.naming_64.ensures _ c.refused.ensures
+    reel-unmatched _ _ _ _ e _ c.from.ensures _ refl
 
-pub returns-then-got-ne0 : goal.returns-then-got-ne0
-returns-then-got-ne0 c =
+pub returns-in_err-start : goal.returns-in_err-start
+returns-in_err-start c =
     let e = sym c.matched.ensures ∙ c.if-not-matched.false in
-    reel-damaged _ _ _ _ e _ c.opened-got.ensures c.if-got-ne0.true _ c.naming_64-then-got-ne0.ensures _
-    c.refused-then-got-ne0.ensures
+    let p = err_from_is_err_and c.from_residual.result c.from_residual.ensures.1 in
+    rw p.1 (reel-damaged _ _ _ _ e _ c.in_err-start.ensures (numbered _) _ p.2 _ refl)
 
 pub returns : goal.returns
 returns c =
     let e = sym c.matched.ensures ∙ c.if-not-matched.false in
-    reel-in _ _ _ _ e _ c.opened-got.ensures c.if-got-ne0.false _ _ c.reel.ensures
+    reel-in _ _ _ _ e _ c.in_ok-start.ensures refl _ _ c.reel.ensures

@@ -1,11 +1,9 @@
-use borrow.Author.Tests.{eq-eqb, ne_eqb}
+use native.Mathlib.Omega.{arith}
+use borrow.Author.Tests.{ne_eqb}
+use Rattle.refusals.proofs.Laws.{numbered}
 use Rattle.sign.specs.Calls.{reel_number}
-use Rattle.sign.proofs.reel_number.Goals as goal
-
-pub returns-then-stop-ne0 : goal.returns-then-stop-ne0
-unfolding reel_number
-returns-then-stop-ne0 c = rw (ne_eqb _ 0 c.if-stop-ne0.true)
+use Rattle.sign.proofs.stop_number.Goals as goal
 
 pub returns : goal.returns
 unfolding reel_number
-returns c = rw (eq-eqb _ 0 c.if-stop-ne0.false)
+returns c = rw (ne_eqb _ 0 (numbered c.args.stop.refusal)) (omega arith)

@@ -10,7 +10,7 @@ use Rattle.refusals.specs.declared.Refusal.{Refusal}
 use Rattle.refusals.specs.Refusals.{refusal_in}
 use Rattle.condition.specs.declared.Condition.{Condition}
 use Rattle.condition.proofs.Good.{Sized}
-use Rattle.host.proofs.Once.{not-none}
+use Rattle.refusals.proofs.Laws.{numbered}
 use Rattle.planner.specs.Answer.{Planned, planned, Counts}
 use Rattle.planner.proofs.Refusals.{accepted, counted}
 use Rattle.vetting.specs.Vetting.{long_refusal, vet_refusal}
@@ -29,10 +29,10 @@ told (Ok n) = refl
 told (Err refusal) = refl
 
 -- the refusal number is that of the promise
-numbered : (c : Condition) (wanted : List ℕ) (asked : ℕ) (string : List ℕ) (r : Result ℕ Refusal) → Counts c wanted asked (planned r)
+told_number : (c : Condition) (wanted : List ℕ) (asked : ℕ) (string : List ℕ) (r : Result ℕ Refusal) → Counts c wanted asked (planned r)
     → long_refusal (refusal_in r) (length string) ≡ vet_refusal c wanted asked string
 unfolding vet_refusal
-numbered c wanted asked string r e = rw (told r ∙ ap (λ (p : Planned). p.refusal) e)
+told_number c wanted asked string r e = rw (told r ∙ ap (λ (p : Planned). p.refusal) e)
 
 -- nothing is refused
 abbrev Taken : In_ok-least → Type 0
@@ -41,14 +41,14 @@ Taken c =
     0 ≡ vet_refusal a.c a.wanted.now a.asked a.string.now
 
 taken : (c : In_ok-least) → Taken c
-taken c = c.in_ok-least.ensures.number ∙ numbered _ _ _ _ _ c.count.ensures
+taken c = c.in_ok-least.ensures.number ∙ told_number _ _ _ _ _ c.count.ensures
 
 pub returns-in_err-least : goal.returns-in_err-least
 returns-in_err-least c =
     let e = err_from_is_err_and c.from_residual.result c.from_residual.ensures.1 in
     rw (e.1, e.2)
     (vet-refused _ _ _ _ (rows (goal.at.returns-in_err-least c).Start) _
-    (c.in_err-least.ensures.number ∙ numbered _ _ _ _ _ c.count.ensures) (not-none _))
+    (c.in_err-least.ensures.number ∙ told_number _ _ _ _ _ c.count.ensures) (numbered _))
 
 pub overflow_cast-asked : goal.overflow_cast-asked
 overflow_cast-asked c =
