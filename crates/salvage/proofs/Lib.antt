@@ -1,4 +1,3 @@
-pub mod Signs
 pub mod Turns
 pub mod Telling
 pub mod AllGood

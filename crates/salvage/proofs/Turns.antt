@@ -13,13 +13,10 @@ use Rattle.laws.proofs.Tests.{by-test, by_equal}
 use Rattle.std.specs.Prelude.{Option}
 use Rattle.std.specs.Io.KnownBytes.{Consumes, Appends}
 use Rattle.std.proofs.KnownBytes.{Consumes-nil, Consumes-trans, Appends-nil, Appends-trans}
-use Rattle.row.specs.Row.{laid}
-use Rattle.row.proofs.Laws.{filled}
-use Rattle.condition.specs.declared.Outcome.{Outcome}
-use Rattle.condition.specs.Condition.{power_up}
+use Rattle.condition.specs.Condition.{power_up, Outcome}
 use Rattle.block.specs.Block.{block_of}
 use Rattle.block.specs.Reading.{read_refusal, ReadPromise}
-use Rattle.block.proofs.RoundTrip.{accepted, refused-by}
+use Rattle.block.proofs.RoundTrip.{refused-by}
 use Rattle.lines.specs.Lines.{each}
 use Rattle.lines.proofs.Laws.{each_same}
 use Rattle.salvage.specs.Salvage.{whole_in, block_at, is_good, last_good, stand_in, written_for, second_of}
@@ -91,13 +88,11 @@ read-refused block number last source o p h =
     let e = ne_eqb _ _ (λ z. h (refused-by block o p ∙ z)) in
     judged block number last source last source (rw e) (rw e)
 
--- a good block is as long as what it is copied over
-pub read-accepted : (block : List ℕ) (number : ℕ) (last : List ℕ) (source : ℕ) (o : Outcome) (after : List ℕ) → ReadPromise block o
-    → o.refusal ≡ 0 → length last ≡ 512 → after ≡ laid block last → Judged block number last source after (number + 1)
-read-accepted block number last source o after p h l f =
+pub read-accepted : (block : List ℕ) (number : ℕ) (last : List ℕ) (source : ℕ) (o : Outcome) → ReadPromise block o
+    → o.refusal ≡ 0 → Judged block number last source block (number + 1)
+read-accepted block number last source o p h =
     let z : read_refusal block ≡ 0 = sym (refused-by block o p) ∙ h in
-    let copied = filled block last 512 (accepted block z).long l in
-    judged block number last source after (number + 1) (rw (eq-eqb _ _ z)) (rw (eq-eqb _ _ z) (f ∙ copied))
+    judged block number last source block (number + 1) (rw (eq-eqb _ _ z)) (rw (eq-eqb _ _ z))
 
 -- From block to block ------------------------------------------------------------------------------------------------------------
 

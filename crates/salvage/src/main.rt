@@ -2,6 +2,7 @@
 #![tactic(auto)]
 
 mod blocks;
+mod failure;
 mod input;
 mod report;
 mod second;
@@ -9,76 +10,79 @@ mod second;
 ghost use Rattle.std.specs.Prelude.{◌≡◌, length};
 ghost use Rattle.salvage.specs.Steps.{Reports};
 
+use crate::failure::{Failure, Names};
+use lines::Text;
 use std::fs::File;
 
 // Room for all that is printed: a line of at most 25 bytes for each block, and two more.
 const TEXT: usize = 262144;
 
-// What is to be printed of a file of so many bytes stands at the start of `out`; nothing, where there is no second file for a reason
-// that was said.
+// Room for a path, and for `.PID.part` behind it.
+const PART: usize = lines::PATH + 32;
+
+// What is to be printed of a file of so many bytes; nothing, where there is no second file.
 fn salvage(
     rt: HostRuntime,
     first: &mut File,
     size: usize,
-    from: &[u8],
-    to: &[u8],
-    out: &mut [u8],
-) -> usize
-    requires { length out.old ≡ 262144 }
-    ensures { Reports size result out.new }
+    names: Names<'_>,
+    text: &mut Text<'_>,
+) -> Result<(), Failure>
+    requires { (text.old.size ≡ 0) × (length text.old.out.now ≡ 262144) }
+    ensures { Reports size text.new.size text.new.out.now }
 {
-    let refusal = blocks::refusal(size);
-    if refusal != 0 {
-        return lines::add_refused(out, 0, refusal);
+    if let Some(refusal) = blocks::refusal(size) {
+        text.refused(refusal.into());
+        return Ok(());
     }
-    let n = size / block::LENGTH;
-    let mut sources = [0u16; blocks::MOST];
-    if !second::make(rt, first, n, &mut sources, from, to) {
-        return 0;
-    }
-    report::add_report(out, &sources, n, size % block::LENGTH)
+    let mut room = [0u16; blocks::MOST];
+    let sources = &mut room[..size / block::LENGTH];
+    second::make(rt, first, sources, names)?;
+    report::report(text, sources, size % block::LENGTH);
+    Ok(())
 }
 
-// The same, of an open file; all is printed once the second file has its name.
-fn salvage_open(rt: HostRuntime, first: &mut File, from: &[u8], to: &[u8]) {
-    let Some(size) = input::length(rt, first, from) else {
-        return;
+// The same, of the file of that name.
+fn salvage_named(rt: HostRuntime, names: Names<'_>, text: &mut Text<'_>) -> Result<(), Failure>
+    requires { (text.old.size ≡ 0) × (length text.old.out.now ≡ 262144) }
+{
+    let mut first = input::open(rt, names.from).map_err(Failure::In)?;
+    let size = input::length(&mut first).map_err(Failure::In)?;
+    salvage(rt, &mut first, size as usize, names, text)
+}
+
+// The same, of the names; all is printed once the second file has its name.
+fn salvage_as(rt: HostRuntime, from: &[u8], to: &[u8]) {
+    let mut room = [0u8; PART];
+    let part = second::part_name(rt, &mut room, to);
+    let names = Names {
+        from,
+        to,
+        part: part.written(),
     };
     let mut out = [0u8; TEXT];
-    let k = salvage(rt, first, size as usize, from, to, &mut out);
-    if let Err(e) = rt.write_all(&out[..k]) {
-        lines::fail(rt, b"standard output", e);
+    let mut text = Text::new(&mut out);
+    if let Err(failure) = salvage_named(rt, names, &mut text) {
+        return failure.say(rt, names);
     }
-}
-
-// The same, by the two names.
-fn salvage_named(rt: HostRuntime, from: &[u8], to: &[u8]) {
-    match input::open(rt, from) {
-        Ok(mut first) => salvage_open(rt, &mut first, from, to),
-        Err(e) => lines::fail(rt, from, e),
+    if let Err(e) = rt.write_all(text.written()) {
+        lines::fail(rt, b"standard output", e);
     }
 }
 
 fn main(rt: HostRuntime) {
     if !lines::has_args(rt, 2) {
-        lines::say(rt, b"usage: salvage IN OUT\n", b"");
-        return;
+        return lines::say(rt, b"usage: salvage IN OUT\n", b"");
     }
-    let mut from = [0u8; lines::PATH];
-    let a = match lines::arg(rt, 1, &mut from) {
-        Ok(n) => n,
-        Err(e) => {
-            lines::fail(rt, b"IN", e);
-            return;
-        }
+    let mut room = [0u8; lines::PATH];
+    let from = match lines::arg(rt, 1, &mut room) {
+        Ok(from) => from,
+        Err(e) => return lines::fail(rt, b"IN", e),
     };
-    let mut to = [0u8; lines::PATH];
-    let b = match lines::arg(rt, 2, &mut to) {
-        Ok(n) => n,
-        Err(e) => {
-            lines::fail(rt, b"OUT", e);
-            return;
-        }
+    let mut room = [0u8; lines::PATH];
+    let to = match lines::arg(rt, 2, &mut room) {
+        Ok(to) => to,
+        Err(e) => return lines::fail(rt, b"OUT", e),
     };
-    salvage_named(rt, &from[..a], &to[..b]);
+    salvage_as(rt, from, to);
 }

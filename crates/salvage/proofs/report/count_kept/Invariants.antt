@@ -1,13 +1,8 @@
-use Prim.Native.Nat.{◌≤◌, ◌-◌}
+use Prim.Native.Nat.{◌≤◌}
 use mathlib.Core.Path.{◌≡◌}
-use lib.ListN.{length}
 use Rattle.salvage.specs.Salvage.{count_of}
 use Rattle.salvage.specs.Steps.{own_source}
 use Rattle.salvage.proofs.report.count_kept.Given as goal
 
 abbrev pub invariant-loop-i : goal.invariant-loop-i
-invariant-loop-i l =
-    (l.i ≤ l.n) × (l.n ≤ 10000) × (length l.sources ≡ 10000) × (l.kept ≤ l.i) × (l.kept ≡ count_of (own_source l.sources) l.i)
-
-abbrev pub decreases-loop-i : goal.decreases-loop-i
-decreases-loop-i l = l.n - l.i
+invariant-loop-i l = (l.kept ≤ l.i) × (l.kept ≡ count_of (own_source l.sources) l.i)
