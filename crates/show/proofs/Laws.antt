@@ -3,7 +3,7 @@ use Prim.Native.Nat.{◌≤◌}
 use mathlib.Core.Path.{◌≡◌}
 use native.Mathlib.Omega.{arith}
 use lib.ListN.{length, length-append}
-use Rattle.interpreter.specs.declared.Ran.{Ran}
+use Rattle.interpreter.specs.Run.{Ran}
 use Rattle.lines.proofs.Laws.{cells-length, decimal-length, print-length}
 use Rattle.show.specs.Report.{place_line, report_of, shown_of}
 

@@ -1,7 +1,7 @@
 -- What `show` prints (document 01, Sample program).
 use Rattle.std.specs.Prelude.{ℕ, List, ◌++◌}
 use Rattle.condition.specs.declared.Condition.{Condition}
-use Rattle.interpreter.specs.declared.Ran.{Ran}
+use Rattle.interpreter.specs.Run.{Ran}
 use Rattle.lines.specs.Lines.{text, numbered, new_line, cell_lines, print_of}
 
 -- in decimal cursor, mode, selected font: `cursor C mode M font F`

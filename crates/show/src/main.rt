@@ -2,50 +2,58 @@
 #![tactic(auto)]
 
 ghost use Rattle.std.specs.Prelude.{◌≡◌, ◌≤◌, length, take};
-ghost use Rattle.lines.specs.Lines.{Added, run_from_start};
+ghost use Rattle.condition.specs.declared.Condition.{Condition};
+ghost use Rattle.interpreter.specs.declared.Tally.{Tally};
+ghost use Rattle.interpreter.specs.Run.{ran};
+ghost use Rattle.lines.specs.Lines.{Adds, run_from_start};
 ghost use Rattle.show.specs.Report.{place_line, shown_of};
 
 use condition::Condition;
 use interpreter::{Ran, Tally};
+use lines::Text;
+use refusals::Refusal;
 
-fn add_place(out: &mut [u8], k: usize, c: Condition) -> usize
-    ensures { Added out.old k (place_line c) out.new result }
+fn place(text: &mut Text<'_>, c: &Condition)
+    ensures { Adds text.old (place_line c.now) text.new }
 {
-    let first = lines::add_number(out, k, b"cursor ", c.cursor as u64);
-    let second = lines::add_number(out, first, b" mode ", c.mode as u64);
-    let third = lines::add_number(out, second, b" font ", c.font as u64);
-    lines::add_word(out, third, b"\n")
+    text.number(b"cursor ", c.cursor as u64);
+    text.number(b" mode ", c.mode as u64);
+    text.number(b" font ", c.font as u64);
+    text.word(b"\n");
 }
 
 // What is printed of a run: its four lines, or its refusal alone.
-fn add_shown(out: &mut [u8], r: Ran) -> usize
-    requires { 313 ≤ length out.old }
-    ensures { (take result out.new ≡ shown_of r) × (result ≤ length out.new) }
+fn shown(text: &mut Text<'_>, run: Result<Ran, Refusal>)
+    requires { (text.old.size ≡ 0) × (313 ≤ length text.old.out.now) }
+    ensures { (c : Condition) (t : Tally) → (take text.new.size text.new.out.now ≡ shown_of (ran c t run))
+        × (text.new.size ≤ length text.new.out.now) }
 {
-    let c = r.condition;
-    let codes = c.codes;
-    let a = lines::add_cells(out, 0, codes);
-    let b = add_place(out, a, c);
-    lines::add_end(out, b, r)
+    match run {
+        Ok(ran) => {
+            text.cells(&ran.condition.codes);
+            place(text, &ran.condition);
+            text.end(run);
+        }
+        Err(_) => text.end(run),
+    }
 }
 
 // What is shown of an input.
-fn show(out: &mut [u8], input: &[u8]) -> usize
+fn show<'a>(out: &'a mut [u8], input: &[u8]) -> Text<'a>
     requires { 313 ≤ length out.old }
-    ensures { (take result out.new ≡ shown_of (run_from_start input.now)) × (result ≤ length out.new) }
+    ensures { (take result.size result.out.now ≡ shown_of (run_from_start input.now))
+        × (result.size ≤ length result.out.now) }
 {
-    let start = Condition::power_up(0);
-    let c = start.condition;
-    let zero = Tally::zero();
-    let r = interpreter::run(c, zero, input);
-    add_shown(out, r)
+    let run = interpreter::run(Condition::powered(0), Tally::zero(), input);
+    let mut text = Text::new(out);
+    shown(&mut text, run);
+    text
 }
 
 fn main(rt: HostRuntime) {
-    let mut from = rt.stdin();
     let mut input = [0u8; 32769];
-    let n = lines::read_full(&mut from, &mut input);
+    let (n, _) = lines::read_full(&mut rt.stdin(), &mut input);
     let mut out = [0u8; 320];
-    let k = show(&mut out, &input[..n]);
-    let _ = rt.write_all(&out[..k]);
+    let text = show(&mut out, &input[..n]);
+    let _ = rt.write_all(text.written());
 }
