@@ -43,7 +43,8 @@ fn parameter(s: &mut [u8; PACKED], index: &mut [u8], b: u8) -> u8
 }
 
 // What a byte does; the answer is its busy figures. Whether flickerless is on is looked at before the byte is carried out, which
-// may change it. Printable bytes are told first: they are the most, so the kind's byte alone is looked at here, and no `Pending` made.
+// may change it. Printable bytes are told first: they are the most. So the kind's byte alone is looked at here, and no `Pending` is
+// made of it.
 fn step(s: &mut [u8; PACKED], index: &mut [u8], b: u8) -> Figures
     requires { (get_or s.old 3 0 < 40) × LentIndex index.old (condition_in s.old) }
     ensures { Stepped (condition_in s.old) b (condition_in s.new) result
