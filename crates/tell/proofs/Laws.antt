@@ -6,7 +6,7 @@ use Rattle.condition.specs.declared.Condition.{Condition}
 use Rattle.glass.specs.declared.Shows.{Shows}
 use Rattle.glass.specs.declared.Shows.TheVariants.{Blank, User, Euro, BuiltIn}
 use Rattle.glass.specs.Answers.{view_answer, dot_answer, underline_answer, lit_answer}
-use Rattle.interpreter.specs.declared.Ran.{Ran}
+use Rattle.interpreter.specs.Run.{Ran}
 use Rattle.lines.specs.Lines.{each}
 use Rattle.lines.proofs.Laws.{each-length, decimal-length, print-length}
 use Rattle.tell.specs.Report.{shows_text, cell_line, dot_text, user_line, user_at, report_of, told_of}

@@ -4,7 +4,7 @@ use Rattle.condition.specs.declared.Condition.{Condition}
 use Rattle.glass.specs.declared.Shows.{Shows}
 use Rattle.glass.specs.declared.Shows.TheVariants.{Blank, User, Euro, BuiltIn}
 use Rattle.glass.specs.Answers.{view_answer, dot_answer, underline_answer, lit_answer}
-use Rattle.interpreter.specs.declared.Ran.{Ran}
+use Rattle.interpreter.specs.Run.{Ran}
 use Rattle.lines.specs.Lines.{text, each, hex_of, decimal_of, numbered, new_line, print_of}
 
 -- what a cell shows: ` blank`, ` user HH`, ` euro` or ` code HH font F`

@@ -3,146 +3,132 @@
 #![tactic(auto)]
 
 ghost use Rattle.std.specs.Prelude.{◌≡◌, ◌≤◌, min, length, take};
-ghost use Rattle.interpreter.specs.Run.{RunPromise};
-ghost use Rattle.lines.specs.Lines.{Added, each, run_from_start};
+ghost use Rattle.condition.specs.declared.Condition.{Condition};
+ghost use Rattle.interpreter.specs.declared.Tally.{Tally};
+ghost use Rattle.interpreter.specs.Run.{ran, RunPromise};
+ghost use Rattle.lines.specs.Lines.{Adds, each, run_from_start};
 ghost use Rattle.tell.specs.Report.{shows_text, cell_line, dot_text, user_line, user_at, told_of};
 
 use condition::Condition;
 use glass::Shows;
 use interpreter::{Ran, Tally};
+use lines::Text;
+use refusals::Refusal;
 use users::Users;
 
 // How many cells there are, as wide as a place in a question.
 const CELLS: u32 = Condition::CELLS as u32;
 
-// A run with the tally lent. Its answer has the tally as the run left it there.
-fn ran(c: Condition, mut t: Tally, bytes: &[u8]) -> Ran
-    ensures { RunPromise c t bytes.now result }
+// A run with the tally lent: the tally that is told is what the run left there.
+fn run(c: Condition, mut t: Tally, bytes: &[u8]) -> Result<Ran, Refusal>
+    ensures { RunPromise c t bytes.now (ran c t result) }
 {
-    let mut r = interpreter::run_lent(&mut t, c, bytes);
-    r.tally = t;
-    r
+    let ran = interpreter::run_lent(&mut t, c, bytes)?;
+    Ok(Ran {
+        condition: ran.condition,
+        tally: t,
+    })
 }
 
-// What a cell shows comes at k.
-fn add_shows(out: &mut [u8], k: usize, s: Shows) -> usize
-    ensures { Added out.old k (shows_text s) out.new result }
+// What a cell shows.
+fn shows(text: &mut Text<'_>, s: Shows)
+    ensures { Adds text.old (shows_text s) text.new }
 {
     match s {
-        Shows::Blank => lines::add_word(out, k, b" blank"),
-        Shows::User(x) => lines::add_hex(out, k, b" user ", x),
-        Shows::Euro => lines::add_word(out, k, b" euro"),
+        Shows::Blank => text.word(b" blank"),
+        Shows::User(x) => text.hex(b" user ", x),
+        Shows::Euro => text.word(b" euro"),
         Shows::BuiltIn(x, f) => {
-            let at = lines::add_hex(out, k, b" code ", x);
-            lines::add_number(out, at, b" font ", f as u64)
+            text.hex(b" code ", x);
+            text.number(b" font ", f as u64);
         }
     }
 }
 
-fn add_cell(out: &mut [u8], k: usize, c: Condition, p: u32) -> usize
-    ensures { Added out.old k (cell_line c p) out.new result }
+// A cell; a refused query shows a blank.
+fn cell(text: &mut Text<'_>, c: &Condition, p: u32)
+    ensures { Adds text.old (cell_line c.now p) text.new }
 {
-    let seen = glass::view(c, p);
-    let s = seen.shows;
-    let first = lines::add_number(out, k, b"cell ", p as u64);
-    let second = add_shows(out, first, s);
-    lines::add_word(out, second, b"\n")
+    let seen = glass::view(*c, p).unwrap_or(Shows::Blank);
+    text.number(b"cell ", p as u64);
+    shows(text, seen);
+    text.word(b"\n");
 }
 
-fn add_cells(out: &mut [u8], k: usize, c: Condition) -> usize
-    ensures { Added out.old k (each (cell_line c) 40) out.new result }
+fn cells(text: &mut Text<'_>, c: &Condition)
+    ensures { Adds text.old (each (cell_line c.now) 40) text.new }
 {
-    let mut at = k;
-    let mut p: u32 = 0;
-    while p < CELLS {
-        at = add_cell(out, at, c, p);
-        p += 1;
+    for p in 0..CELLS {
+        cell(text, c, p);
     }
-    at
 }
 
 // The dots P1 to P35, 1 where it is lit, else 0.
-fn add_dots(out: &mut [u8], k: usize, c: Condition, code: u8) -> usize
-    ensures { Added out.old k (each (dot_text c code) 35) out.new result }
+fn dots(text: &mut Text<'_>, c: &Condition, code: u8)
+    ensures { Adds text.old (each (dot_text c.now code) 35) text.new }
 {
-    let mut at = k;
-    let mut i: u32 = 0;
-    while i < 35 {
-        let dot = glass::dot(c, code as u32, i + 1);
-        at = lines::add_number(out, at, b"", dot.value as u64);
-        i += 1;
+    for i in 0..35 {
+        let dot = glass::dot(*c, code as u32, i + 1).unwrap_or(0);
+        text.number(b"", dot as u64);
     }
-    at
 }
 
 // A user character, asked for by its code.
-fn add_user(out: &mut [u8], k: usize, c: Condition, code: u8) -> usize
-    ensures { Added out.old k (user_line c code) out.new result }
+fn user(text: &mut Text<'_>, c: &Condition, code: u8)
+    ensures { Adds text.old (user_line c.now code) text.new }
 {
-    let underline = glass::underline(c, code as u32);
-    let lit = glass::lit(c, code as u32);
-    let first = lines::add_hex(out, k, b"user ", code);
-    let second = lines::add_word(out, first, b" ");
-    let third = add_dots(out, second, c, code);
-    let fourth = lines::add_number(out, third, b" underline ", underline.value as u64);
-    let fifth = lines::add_number(out, fourth, b" lit ", lit.value as u64);
-    lines::add_word(out, fifth, b"\n")
+    let underline = glass::underline(*c, code as u32).unwrap_or(0);
+    let lit = glass::lit(*c, code as u32).unwrap_or(0);
+    text.hex(b"user ", code);
+    text.word(b" ");
+    dots(text, c, code);
+    text.number(b" underline ", underline as u64);
+    text.number(b" lit ", lit as u64);
+    text.word(b"\n");
 }
 
-// How many user characters are held; a condition that a run leaves has at most 16.
-fn held(count: u8) -> usize
-    ensures { (result ≡ min count 16) × (result ≤ 16) }
+// The user characters that are held; a condition that a run leaves has at most 16.
+fn users(text: &mut Text<'_>, c: &Condition)
+    ensures { Adds text.old (each (user_at c.now) (min c.now.users.count 16)) text.new }
 {
-    if count < Condition::MOST_USERS {
-        count as usize
-    } else {
-        Condition::MOST_USERS as usize
+    let n = c.users.count.min(Condition::MOST_USERS) as usize;
+    for i in 0..n {
+        user(text, c, c.users.bytes[i * Users::PLACE]);
     }
-}
-
-fn add_users(out: &mut [u8], k: usize, c: Condition) -> usize
-    ensures { Added out.old k (each (user_at c) (min c.users.count 16)) out.new result }
-{
-    let u = c.users;
-    let bytes = u.bytes;
-    let n = held(u.count);
-    let mut at = k;
-    let mut i: usize = 0;
-    while i < n {
-        at = add_user(out, at, c, bytes[i * Users::PLACE]);
-        i += 1;
-    }
-    at
 }
 
 // What is told of a run: its cells and user characters and the tally, or its refusal alone.
-fn add_told(out: &mut [u8], r: Ran) -> usize
-    requires { 16384 ≤ length out.old }
-    ensures { (take result out.new ≡ told_of r) × (result ≤ length out.new) }
+fn told(text: &mut Text<'_>, run: Result<Ran, Refusal>)
+    requires { (text.old.size ≡ 0) × (16384 ≤ length text.old.out.now) }
+    ensures { (c : Condition) (t : Tally) → (take text.new.size text.new.out.now ≡ told_of (ran c t run))
+        × (text.new.size ≤ length text.new.out.now) }
 {
-    let c = r.condition;
-    let a = add_cells(out, 0, c);
-    let b = add_users(out, a, c);
-    lines::add_end(out, b, r)
+    match run {
+        Ok(ran) => {
+            cells(text, &ran.condition);
+            users(text, &ran.condition);
+            text.end(run);
+        }
+        Err(_) => text.end(run),
+    }
 }
 
 // What is told of an input.
-fn tell(out: &mut [u8], input: &[u8]) -> usize
+fn tell<'a>(out: &'a mut [u8], input: &[u8]) -> Text<'a>
     requires { 16384 ≤ length out.old }
-    ensures { (take result out.new ≡ told_of (run_from_start input.now)) × (result ≤ length out.new) }
+    ensures { (take result.size result.out.now ≡ told_of (run_from_start input.now))
+        × (result.size ≤ length result.out.now) }
 {
-    let start = Condition::power_up(0);
-    let c = start.condition;
-    let zero = Tally::zero();
-    let r = ran(c, zero, input);
-    add_told(out, r)
+    let run = run(Condition::powered(0), Tally::zero(), input);
+    let mut text = Text::new(out);
+    told(&mut text, run);
+    text
 }
 
 fn main(rt: HostRuntime) {
-    let mut from = rt.stdin();
     let mut input = [0u8; 32769];
-    let n = lines::read_full(&mut from, &mut input);
+    let (n, _) = lines::read_full(&mut rt.stdin(), &mut input);
     let mut out = [0u8; 16384];
-    let k = tell(&mut out, &input[..n]);
-    let _ = rt.write_all(&out[..k]);
+    let text = tell(&mut out, &input[..n]);
+    let _ = rt.write_all(text.written());
 }

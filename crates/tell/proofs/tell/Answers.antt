@@ -1,8 +1,5 @@
-use Rattle.condition.specs.Condition.{power_up_answer}
 use Rattle.tell.proofs.tell.Goals as goal
 
 pub returns : goal.returns
-unfolding power_up_answer
 returns c =
-    let a = rw (c.power_up-start.ensures, c.zero-zero.ensures) at c.ran-r.ensures.answer in
-    rw a at c.add_told.ensures
+    rw (c.run-run.ensures.answer, c.powered.ensures, c.zero.ensures) at (c.told.ensures c.powered.result c.zero.result)
