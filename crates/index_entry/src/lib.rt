@@ -5,11 +5,16 @@
 ghost use Rattle.std.specs.Prelude.{◌≡◌, length};
 ghost use Rattle.condition.specs.Set.{with_index};
 ghost use Rattle.layout.specs.Layout.{unpacked_of};
+ghost use Rattle.refusals.specs.Refusals.{refusal_in};
 ghost use Rattle.index_entry.specs.Entry.{run_number, plan_number, fonts_number, reel_number, recover_number, write_number};
 ghost use Rattle.index_entry.specs.Entry.{view_number, dot_number, underline_number, lit_number, call_refusal, index_refusal};
 
 use condition::Condition;
 use interpreter::Tally;
+use refusals::Refusal;
+
+// A blank picture.
+const BLANK: [u8; Condition::CELLS] = [0x20; Condition::CELLS];
 
 // Entries of another number than an index has.
 const WRONG_LENGTH: u32 = 1;
@@ -19,105 +24,99 @@ fn condition_in(s: &[u8], entries: &[u8]) -> Condition
     requires { length entries.now ≡ 256 }
     ensures { result ≡ with_index (unpacked_of s.now) entries.now }
 {
-    let mut index = [0u8; index::ENTRIES];
-    row::copy(&mut index, entries);
     let mut c = layout::unpacked(s);
-    c.index = index;
+    c.index.copy_from_slice(entries);
     c
 }
 
+// The number of the refusal, 0 for an answer.
+fn number<T: Copy>(answer: Result<T, Refusal>) -> u32
+    ensures { result ≡ refusal_in answer }
+{
+    match answer {
+        Ok(_) => 0,
+        Err(refusal) => refusal.into(),
+    }
+}
+
 // A run of no byte.
-fn of_run(c: Condition) -> u8
+fn of_run(c: Condition) -> u32
     ensures { result ≡ run_number c }
 {
-    let none = [0u8; 1];
-    let ran = interpreter::run(c, Tally::zero(), &none[0..0]);
-    ran.refusal
+    number(interpreter::run(c, Tally::zero(), &[]))
 }
 
 // A plan of a blank picture.
-fn of_plan(c: Condition) -> u8
+fn of_plan(c: Condition) -> u32
     ensures { result ≡ plan_number c }
 {
-    let blank = [0x20u8; Condition::CELLS];
-    let mut out = [0u8; planner::ROOM];
-    let planned = planner::plan(c, &blank, 0, &mut out);
-    planned.refusal
+    let mut out = [0; planner::ROOM];
+    number(planner::plan(c, &BLANK, 0, &mut out))
 }
 
-fn of_fonts(c: Condition) -> u8
+fn of_fonts(c: Condition) -> u32
     ensures { result ≡ fonts_number c }
 {
-    let blank = [0x20u8; Condition::CELLS];
-    let fonts = [0u8; Condition::CELLS];
-    let mut out = [0u8; planner::ROOM_FONTS];
-    let planned = planner::plan_fonts(c, &blank, &fonts, 0, &mut out);
-    planned.refusal
+    let fonts = [0; Condition::CELLS];
+    let mut out = [0; planner::ROOM_FONTS];
+    number(planner::plan_fonts(c, &BLANK, &fonts, 0, &mut out))
 }
 
 // A reel of no picture.
-fn of_reel(c: Condition) -> u8
+fn of_reel(c: Condition) -> u32
     ensures { result ≡ reel_number c }
 {
-    let codes = [0u8; 1];
-    let cursors = [0u8; 1];
-    let mut out = [0u8; 1];
-    let reeled = reel::reel(c, &codes[0..0], &cursors[0..0], &mut out);
-    let stop = reeled.stop;
-    stop.refusal
+    let mut out = [0; 1];
+    match reel::reel(c, &[], &[], &mut out) {
+        Ok(_) => 0,
+        Err(stop) => stop.refusal.into(),
+    }
 }
 
-fn of_recover(c: Condition) -> u8
+fn of_recover(c: Condition) -> u32
     ensures { result ≡ recover_number c }
 {
-    let mut out = [0u8; recovery::ROOM];
-    let planned = recovery::recover(c, &mut out);
-    planned.refusal
+    let mut out = [0; recovery::ROOM];
+    number(recovery::recover(c, &mut out))
 }
 
-fn of_write(c: Condition) -> u8
+fn of_write(c: Condition) -> u32
     ensures { result ≡ write_number c }
 {
-    let mut out = [0u8; block::LENGTH];
-    let written = block::write(c, &mut out);
-    written.refusal
+    let mut out = [0; block::LENGTH];
+    number(block::write(c, &mut out))
 }
 
-fn of_view(c: Condition) -> u8
+fn of_view(c: Condition) -> u32
     ensures { result ≡ view_number c }
 {
-    let seen = glass::view(c, 0);
-    seen.refusal
+    number(glass::view(c, 0))
 }
 
 // The three questions about the oldest user character.
-fn of_dot(c: Condition, code: u8) -> u8
+fn of_dot(c: Condition, code: u32) -> u32
     ensures { result ≡ dot_number c code }
 {
-    let answer = glass::dot(c, code as u32, 1);
-    answer.refusal
+    number(glass::dot(c, code, 1))
 }
 
-fn of_underline(c: Condition, code: u8) -> u8
+fn of_underline(c: Condition, code: u32) -> u32
     ensures { result ≡ underline_number c code }
 {
-    let answer = glass::underline(c, code as u32);
-    answer.refusal
+    number(glass::underline(c, code))
 }
 
-fn of_lit(c: Condition, code: u8) -> u8
+fn of_lit(c: Condition, code: u32) -> u32
     ensures { result ≡ lit_number c code }
 {
-    let answer = glass::lit(c, code as u32);
-    answer.refusal
+    number(glass::lit(c, code))
 }
 
-fn of_call(call: u32, c: Condition) -> u8
+// The calls have numbers here, because C gives one; a closure for each would be no plainer than its line.
+fn of_call(call: u32, c: Condition) -> u32
     ensures { result ≡ call_refusal call c }
 {
-    let u = c.users;
-    let bytes = u.bytes;
-    let code = bytes[0];
+    let code = u32::from(c.users.bytes[0]);
     match call {
         0 => of_run(c),
         1 => of_plan(c),
@@ -140,5 +139,5 @@ pub extern "C" fn index_refusal(call: u32, s: &[u8], entries: &[u8]) -> u32
     if entries.len() != index::ENTRIES {
         return WRONG_LENGTH;
     }
-    of_call(call, condition_in(s, entries)) as u32
+    of_call(call, condition_in(s, entries))
 }

@@ -6,7 +6,7 @@ use native.Mathlib.Omega.{arith}
 use Rattle.refusals.specs.declared.Refusal.{Refusal}
 use Rattle.refusals.specs.declared.Refusal.TheVariants.{WrongLength, Damaged, OutOfRange, TooLong, TallyFull, HalfReceived}
 use Rattle.refusals.specs.declared.Refusal.TheVariants.{WrongMode, UserOnMove, NoCharacter, NoRoom, Lost}
-use Rattle.refusals.specs.Refusals.{number_of, number_or_none}
+use Rattle.refusals.specs.Refusals.{number_of, refusal_in, number_or_none}
 
 -- what holds of a refusal by its number
 by-number : (P : ℕ → Type 0) → P 1 → P 2 → P 3 → P 4 → P 5 → P 6 → P 7 → P 8 → P 9 → P 10 → P 11 → (e : Refusal) → P (number_of e)
@@ -84,3 +84,9 @@ one-answer words number value accepted kept refused (Ok x) (Err b) h =
 one-answer words number value accepted kept refused (Err a) (Ok y) h = absurd (numbered a (sym (refused a) ∙ ap number h ∙ accepted y))
 one-answer words number value accepted kept refused (Err a) (Err b) h =
     ap Err (one-refusal a b (sym (refused a) ∙ ap number h ∙ refused b))
+
+-- and its number is that of its refusal
+pub number-in : {A R : Type 0} (words : Result A Refusal → R) (number : R → ℕ) → ((x : A) → number (words (Ok x)) ≡ 0)
+    → ((e : Refusal) → number (words (Err e)) ≡ number_of e) → (r : Result A Refusal) → refusal_in r ≡ number (words r)
+number-in words number accepted refused (Ok x) = sym (accepted x)
+number-in words number accepted refused (Err e) = sym (refused e)

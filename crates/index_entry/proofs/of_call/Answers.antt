@@ -32,13 +32,13 @@ returns-in-6 c = rw (c.of_view.ensures, c.in-6.is)
 
 pub returns-in-7 : goal.returns-in-7
 unfolding call_refusal
-returns-in-7 c = rw (c.of_dot.ensures, c.in-7.is)
+returns-in-7 c = rw (c.of_dot.ensures, c.from-code.ensures, c.in-7.is)
 
 pub returns-in-8 : goal.returns-in-8
 unfolding call_refusal
-returns-in-8 c = rw (c.of_underline.ensures, c.in-8.is)
+returns-in-8 c = rw (c.of_underline.ensures, c.from-code.ensures, c.in-8.is)
 
 pub returns-in_default : goal.returns-in_default
 unfolding call_refusal
 returns-in_default c =
-    rw c.of_lit.ensures (search (tests, c.in_default))
+    rw (c.of_lit.ensures, c.from-code.ensures) (search (tests, c.in_default))

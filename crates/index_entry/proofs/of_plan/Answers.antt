@@ -1,6 +1,7 @@
-use mathlib.Core.Path.{ap}
-use Rattle.planner.specs.declared.Planned.{Planned}
+use mathlib.Core.Path.{refl, ap, ◌∙◌}
+use Rattle.refusals.proofs.Laws.{number-in}
+use Rattle.planner.specs.Answer.{Planned, planned}
 use Rattle.index_entry.proofs.of_plan.Goals as goal
 
 pub returns : goal.returns
-returns c = ap (λ (r : Planned). r.refusal) c.plan-planned.ensures.answer
+returns c = c.number.ensures ∙ number-in planned (λ a. a.refusal) (λ _. refl) (λ _. refl) _ ∙ ap (λ (a : Planned). a.refusal) c.plan.ensures.answer

@@ -1,6 +1,7 @@
-use mathlib.Core.Path.{ap}
-use Rattle.glass.specs.declared.Answer.{Answer}
+use mathlib.Core.Path.{refl, ap, ◌∙◌}
+use Rattle.refusals.proofs.Laws.{number-in}
+use Rattle.glass.specs.Answers.{Answer, answer}
 use Rattle.index_entry.proofs.of_underline.Goals as goal
 
 pub returns : goal.returns
-returns c = ap (λ (r : Answer). r.refusal) c.underline-answer.ensures
+returns c = c.number.ensures ∙ number-in answer (λ a. a.refusal) (λ _. refl) (λ _. refl) _ ∙ ap (λ (a : Answer). a.refusal) c.underline.ensures

@@ -1,8 +1,9 @@
-use mathlib.Core.Path.{ap}
-use Rattle.block.specs.declared.Written.{Written}
-use Rattle.block.specs.Writing.{write_answer}
+use mathlib.Core.Path.{refl, ap, ◌∙◌}
+use Rattle.refusals.proofs.Laws.{number-in}
+use Rattle.block.specs.Writing.{Written, written, write_answer}
 use Rattle.index_entry.proofs.of_write.Goals as goal
 
 pub returns : goal.returns
 unfolding write_answer
-returns c = ap (λ (r : Written). r.refusal) c.write-written.ensures.answer
+returns c =
+    c.number.ensures ∙ number-in written (λ a. a.refusal) (λ _. refl) (λ _. refl) _ ∙ ap (λ (a : Written). a.refusal) c.write.ensures.answer
