@@ -5,8 +5,6 @@ use mathlib.Core.List.{List, ◌++◌, append_assoc}
 use native.Mathlib.Omega.{arith}
 use lib.ListN.{length, get_or, take, drop, replicate, length-append, length-drop, take-append-drop, get_or-replicate}
 use lib.Seq.{take-add, drop-drop, get_or-take, get_or-drop, drop_at, take_at, length-take-le, take-append-add, drop-append-add}
-use Rattle.std.proofs.Math.Seq.{paste}
-use borrow.Rule.Slice.PartMut.{put_mid}
 use lib.Dec.{leb, ltb}
 use borrow.Author.Tests.{leb-true, leb-false, ltb-true, ltb-false}
 use Rattle.laws.proofs.Tests.{by_cases}
@@ -14,22 +12,62 @@ use Rattle.laws.proofs.Lists.{part_length, cut, in-front, behind}
 use Rattle.row.specs.Row.{advanced}
 use Rattle.users.specs.Users.{removed}
 
--- a part that is advanced by a place: what stands one place further on is copied over it
-pub advanced-part : (us : List ℕ) (a n k : ℕ) → n ≡ k + 6 → a + n ≤ length us
-    → put_mid a n us (advanced 6 (take n (drop a us))) ≡ paste us a (drop (a + 6) us) k
-unfolding advanced
-advanced-part us a n k e l =
-    let m = drop a us in
-    let more : k + 6 ≡ 6 + k = omega arith in
-    let fewer : k + 6 - 6 ≡ k = omega arith in
-    let len : length (take (k + 6) m) ≡ k + 6 = part_length a (k + 6) us (omega (arith, l, e)) in
-    let first : drop 6 (take (k + 6) m) ≡ take k (drop (a + 6) us) =
-    rw (more, take-add 6 k m, drop_at (take 6 m) (take k (drop 6 m)) 6 (part_length a 6 us (omega (arith, l, e)))) (ap (take k) (drop-drop 6 a us)) in
-    let last : drop k (take (k + 6) m) ≡ take 6 (drop k m) =
-    rw (take-add k 6 m) (drop_at (take k m) (take 6 (drop k m)) k (part_length a k us (omega (arith, l, e)))) in
-    let rest : take 6 (drop k m) ++ drop (k + 6) m ≡ drop (a + k) us =
-    rw (← drop-drop 6 k m) (take-append-drop 6 (drop k m) ∙ drop-drop k a us) in
-    rw (e, len, fewer, first, last) (rw (append_assoc (take k (drop (a + 6) us)) (take 6 (drop k m)) (drop (k + 6) m), rest) (simp append_assoc))
+-- a place, between what stands before it and after it, taken out
+between : (a x r : List ℕ) (k youngest : ℕ) → length a ≡ k * 6 → length x ≡ 6 → k ≤ youngest
+    → removed k youngest (a ++ (x ++ r)) ≡ a ++ (take ((youngest - k) * 6) r ++ (replicate 6 0 ++ drop ((youngest - k) * 6) r))
+unfolding removed
+between a x r k youngest h l m =
+    let p : k * 6 + 6 + (youngest - k) * 6 ≡ youngest * 6 + 6 = omega arith in
+    let rest : drop (k * 6 + 6) (a ++ (x ++ r)) ≡ r =
+    rw (← drop-drop 6 (k * 6) (a ++ (x ++ r)), drop_at a (x ++ r) (k * 6) h) (drop_at x r 6 l) in
+    rw (← p, ← drop-drop ((youngest - k) * 6) (k * 6 + 6) (a ++ (x ++ r)), rest, take_at a (x ++ r) (k * 6) h) (simp append_assoc)
+
+-- The loop of `remove`: the place i takes what stands in the next one, which is then the one to be taken out; in the end the
+-- youngest place is 0
+turned : (a x y r : List ℕ) (i youngest : ℕ) → length a ≡ i * 6 → length x ≡ 6 → length y ≡ 6 → i < youngest
+    → removed (i + 1) youngest (a ++ (y ++ (y ++ r))) ≡ removed i youngest (a ++ (x ++ (y ++ r)))
+turned a x y r i youngest h l m o =
+    let q : (youngest - i) * 6 ≡ length y + (youngest - (i + 1)) * 6 = omega arith in
+    rw (
+      ← append_assoc a y (y ++ r),
+      between (a ++ y) y r (i + 1) youngest (length-append a y ∙ omega arith) m (omega arith),
+      between a x (y ++ r) i youngest h l (omega arith),
+      q,
+      take-append-add y r ((youngest - (i + 1)) * 6),
+      drop-append-add y r ((youngest - (i + 1)) * 6),
+    )
+    (simp append_assoc)
+
+module _ (b : List ℕ) (i youngest : ℕ) (l : youngest * 6 + 6 ≤ length b) where
+  pub remove-turn : (x : List ℕ) (n : ℕ) → n ≡ 12 → i < youngest → x ≡ advanced 6 (take n (drop (i * 6) b))
+      → removed (i + 1) youngest (take (i * 6) b ++ (x ++ drop n (drop (i * 6) b))) ≡ removed i youngest b
+  unfolding advanced
+  remove-turn x n t m f =
+      let a = take (i * 6) b in
+      let p = take 6 (drop (i * 6) b) in
+      let y = take 6 (drop (i * 6 + 6) b) in
+      let r = drop (i * 6 + 12) b in
+      let o : i * 6 + 6 + 6 ≡ i * 6 + 12 = omega arith in
+      let six = part_length (i * 6) 6 b (omega arith) in
+      let next : drop 6 (take 12 (drop (i * 6) b)) ≡ y =
+      rw (take-add 6 6 (drop (i * 6) b), drop_at p (take 6 (drop 6 (drop (i * 6) b))) 6 six, drop-drop 6 (i * 6) b) in
+      let whole : a ++ (p ++ (y ++ r)) ≡ b =
+      rw (← o, ← cut (i * 6 + 6) 6 b, ← cut (i * 6) 6 b) (take-append-drop (i * 6) b) in
+      rw (f, t, part_length (i * 6) 12 b (omega arith), next, drop-drop 12 (i * 6) b, append_assoc y y r)
+      (turned a p y r i youngest (length-take-le (i * 6) b (omega arith)) six (part_length (i * 6 + 6) 6 b (omega arith)) m
+      ∙ ap (removed i youngest) whole)
+
+  pub remove-law : (x : List ℕ) (n : ℕ) → n ≡ 6 → i ≡ youngest → x ≡ replicate (length (take n (drop (i * 6) b))) 0
+      → take (i * 6) b ++ (x ++ drop n (drop (i * 6) b)) ≡ removed i youngest b
+  remove-law x n t m f =
+      let a = take (i * 6) b in
+      let p = take 6 (drop (i * 6) b) in
+      let six = part_length (i * 6) 6 b (omega arith) in
+      let z : (youngest - i) * 6 ≡ 0 = omega arith in
+      let whole : a ++ (p ++ drop (i * 6 + 6) b) ≡ b = rw (← cut (i * 6) 6 b) (take-append-drop (i * 6) b) in
+      rw (f, t, six, drop-drop 6 (i * 6) b)
+      (sym (rw z at (between a p (drop (i * 6 + 6) b) i youngest (length-take-le (i * 6) b (omega arith)) six (omega arith)))
+      ∙ ap (removed i youngest) whole)
 
 -- What then stands where ------------------------------------------------------------------------------------------------------
 
@@ -60,23 +98,6 @@ module _ (us : List ℕ) (k youngest : ℕ) (h : k ≤ youngest) (l : youngest *
   removed-length =
       length-append (older ++ younger ++ replicate 6 0) (drop (youngest * 6 + 6) us)
       ∙ rw (kept-length, length-drop (youngest * 6 + 6) us) (omega arith)
-
-  -- what `remove` leaves: what stands behind it is copied over it, and the youngest place is 0
-  pub remove-law : (x z : List ℕ) (n : ℕ) → n ≡ 6 → x ≡ paste us (k * 6) (drop (k * 6 + 6) us) ((youngest - k) * 6)
-      → z ≡ replicate (length (take n (drop (youngest * 6) x))) 0 → put_mid (youngest * 6) n x z ≡ removed k youngest us
-  unfolding removed
-  remove-law x z n six p zeros =
-      let end = k * 6 + (youngest - k) * 6 in
-      let rest = drop end us in
-      let behind-it : drop 6 rest ≡ drop (youngest * 6 + 6) us = drop-drop 6 end us ∙ ap (λ (i : ℕ). drop i us) (omega arith) in
-      rw (zeros, six, p)
-      (rw (
-        take_at (older ++ younger) rest (youngest * 6) both-length,
-        drop_at (older ++ younger) rest (youngest * 6) both-length,
-        part_length end 6 us (omega arith),
-        behind-it,
-      )
-      (simp append_assoc))
 
   -- before the youngest place, what stood in the place itself or in the next one
   pub left_at : (i j : ℕ) → i < youngest → j < 6 → get_or (removed k youngest us) (i * 6 + j) 0 ≡ get_or us (came k i * 6 + j) 0

@@ -33,6 +33,9 @@ impl Users {
     // The bytes that are held of a character until its fifth comes.
     pub const HELD: usize = 4;
 
+    // The bytes of two places.
+    const TWO: usize = 12;
+
     pub fn list(&self) -> UserList
         ensures { (result.bytes.now ≡ self.now.bytes) × (result.count ≡ self.now.count) }
     {
@@ -167,15 +170,18 @@ fn leaving(bytes: &[u8], count: u8, code: u8) -> Option<usize>
     }
 }
 
-// Takes the place k out of those up to the youngest: each later one moves to the place before it, and the youngest place is 0.
+// Takes the place k out of those up to the youngest: each later one moves to the place before it, and the youngest place is 0. (A
+// place at a time: one move of them all is compiled to a call of memmove, and a host on bare metal has none.)
 fn remove(bytes: &mut [u8], k: usize, youngest: usize)
     requires { (k ≤ youngest) × (youngest * 6 + 6 ≤ length bytes.old) }
     ensures { bytes.new ≡ removed k youngest bytes.old }
 {
-    let at = k * Users::PLACE;
-    let end = youngest * Users::PLACE;
-    row::advance(&mut bytes[at..end + Users::PLACE], Users::PLACE);
-    row::clear(&mut bytes[end..end + Users::PLACE], 0);
+    for i in k..youngest {
+        let at = i * Users::PLACE;
+        row::advance(&mut bytes[at..at + Users::TWO], Users::PLACE);
+    }
+    let at = youngest * Users::PLACE;
+    row::clear(&mut bytes[at..at + Users::PLACE], 0);
 }
 
 // A code with its five bytes comes last, the youngest. The place that it had is taken out; where it had none and all places are
