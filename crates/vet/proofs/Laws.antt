@@ -9,8 +9,7 @@ use lib.Seq.{take_all}
 use borrow.Author.Tests.{eq-eqb, ne_eqb, leb-true, leb-false}
 use Rattle.laws.proofs.Tests.{by_cases, by_equal}
 use Rattle.lines.proofs.Laws.{decimal-length, refused-length}
-use Rattle.vetting.specs.declared.Verdict.{Verdict}
-use Rattle.vetting.specs.declared.Verdict.TheVariants.{Refused, Byte, Cell, Cursor, Yes}
+use Rattle.vetting.specs.Verdicts.{Verdict, Refused, Byte, Cell, Cursor, Yes}
 use Rattle.vetting.specs.Vetting.{block_verdict}
 use Rattle.vetting.proofs.Answers.{no_block, too_long}
 use Rattle.vet.specs.Line.{files_verdict, verdict_line, vet_line}

@@ -1,8 +1,7 @@
 -- What `vet BLOCK PICTURE STRING` prints (document 02, W11): yes and the excess, or why not.
 use Rattle.std.specs.Prelude.{ℕ, cond, List, ◌++◌, length, get_or, take, eqb}
 use Rattle.lines.specs.Lines.{text, numbered, new_line, refused_line}
-use Rattle.vetting.specs.declared.Verdict.{Verdict}
-use Rattle.vetting.specs.declared.Verdict.TheVariants.{Refused, Byte, Cell, Cursor, Yes}
+use Rattle.vetting.specs.Verdicts.{Verdict, Refused, Byte, Cell, Cursor, Yes}
 use Rattle.vetting.specs.Vetting.{block_verdict}
 
 -- PICTURE is 40 codes and the asked cursor, 41 bytes; 1 where it is not

@@ -5,11 +5,14 @@
 mod input;
 
 ghost use Rattle.std.specs.Prelude.{◌≡◌, ◌≤◌, length, take};
-ghost use Rattle.lines.specs.Lines.{Added};
+ghost use Rattle.lines.specs.Lines.{Adds};
+ghost use Rattle.vetting.specs.Verdicts.{unrefused, verdict};
 ghost use Rattle.vet.specs.Line.{numbered_line, verdict_line, files_verdict, vet_line};
 
 use crate::input::read_arg;
 use condition::Condition;
+use lines::Text;
+use refusals::Refusal;
 use vetting::Verdict;
 
 // A picture: a code for each cell, and the asked cursor.
@@ -23,75 +26,77 @@ const PICTURE_READ: usize = PICTURE + 1;
 const STRING_READ: usize = vetting::MOST + 1;
 
 // A word, a number and a new line.
-fn add_line(out: &mut [u8], word: &[u8], n: u32) -> usize
-    ensures { Added out.old 0 (numbered_line word.now n) out.new result }
+fn line(text: &mut Text<'_>, word: &[u8], n: u32)
+    ensures { Adds text.old (numbered_line word.now n) text.new }
 {
-    let at = lines::add_number(out, 0, word, n as u64);
-    lines::add_word(out, at, b"\n")
+    text.number(word, n as u64);
+    text.word(b"\n");
+}
+
+// What is printed of a verdict on a string that is not refused.
+fn given(text: &mut Text<'_>, v: Verdict)
+    ensures { Adds text.old (verdict_line (unrefused v)) text.new }
+{
+    match v {
+        Verdict::Byte(at) => line(text, b"no, byte ", at),
+        Verdict::Cell(place) => line(text, b"no, cell ", place as u32),
+        Verdict::Cursor => text.word(b"no, cursor\n"),
+        Verdict::Yes(excess) => line(text, b"yes excess ", excess),
+    }
 }
 
 // What is printed of a verdict.
-fn add_verdict(out: &mut [u8], v: Verdict) -> usize
-    ensures { Added out.old 0 (verdict_line v) out.new result }
+fn told(text: &mut Text<'_>, v: Result<Verdict, Refusal>)
+    ensures { Adds text.old (verdict_line (verdict v)) text.new }
 {
     match v {
-        Verdict::Refused(n) => lines::add_refused(out, 0, n),
-        Verdict::Byte(at) => add_line(out, b"no, byte ", at),
-        Verdict::Cell(place) => add_line(out, b"no, cell ", place as u32),
-        Verdict::Cursor => lines::add_word(out, 0, b"no, cursor\n"),
-        Verdict::Yes(excess) => add_line(out, b"yes excess ", excess),
+        Ok(v) => given(text, v),
+        Err(refusal) => text.refused(refusal.into()),
     }
 }
 
 // The verdict on what was read of the three files.
-fn verdict(block: &[u8], picture: &[u8], string: &[u8]) -> Verdict
-    ensures { result ≡ files_verdict block.now picture.now string.now }
+fn judge(block: &[u8], picture: &[u8], string: &[u8]) -> Result<Verdict, Refusal>
+    ensures { verdict result ≡ files_verdict block.now picture.now string.now }
 {
     if picture.len() != PICTURE {
-        return Verdict::Refused(1);
+        return Err(Refusal::WrongLength);
     }
     let asked = picture[Condition::CELLS];
     vetting::vet_block(block, &picture[..Condition::CELLS], asked as u32, string)
 }
 
 // What is printed for what was read of the three files.
-fn vet(out: &mut [u8], block: &[u8], picture: &[u8], string: &[u8]) -> usize
+fn vet<'a>(out: &'a mut [u8], block: &[u8], picture: &[u8], string: &[u8]) -> Text<'a>
     requires { 40 ≤ length out.old }
-    ensures { (take result out.new ≡ vet_line block.now picture.now string.now)
-        × (result ≤ length out.new) }
+    ensures { (take result.size result.out.now ≡ vet_line block.now picture.now string.now)
+        × (result.size ≤ length result.out.now) }
 {
-    let v = verdict(block, picture, string);
-    add_verdict(out, v)
+    let v = judge(block, picture, string);
+    let mut text = Text::new(out);
+    told(&mut text, v);
+    text
 }
 
 fn main(rt: HostRuntime) {
     if !lines::has_args(rt, 3) {
-        lines::say(rt, b"usage: vet BLOCK PICTURE STRING\n", b"");
-        return;
+        return lines::say(rt, b"usage: vet BLOCK PICTURE STRING\n", b"");
     }
-    let mut block = [0u8; BLOCK_READ];
-    let a = read_arg(rt, 1, b"BLOCK", &mut block);
-    if !a.had {
+    let mut room = [0u8; BLOCK_READ];
+    let Some(block) = read_arg(rt, 1, b"BLOCK", &mut room) else {
         return;
-    }
-    let mut picture = [0u8; PICTURE_READ];
-    let b = read_arg(rt, 2, b"PICTURE", &mut picture);
-    if !b.had {
+    };
+    let mut room = [0u8; PICTURE_READ];
+    let Some(picture) = read_arg(rt, 2, b"PICTURE", &mut room) else {
         return;
-    }
-    let mut string = [0u8; STRING_READ];
-    let c = read_arg(rt, 3, b"STRING", &mut string);
-    if !c.had {
+    };
+    let mut room = [0u8; STRING_READ];
+    let Some(string) = read_arg(rt, 3, b"STRING", &mut room) else {
         return;
-    }
+    };
     let mut out = [0u8; 40];
-    let k = vet(
-        &mut out,
-        &block[..a.size],
-        &picture[..b.size],
-        &string[..c.size],
-    );
-    if let Err(e) = rt.write_all(&out[..k]) {
+    let text = vet(&mut out, block, picture, string);
+    if let Err(e) = rt.write_all(text.written()) {
         lines::fail(rt, b"standard output", e);
     }
 }

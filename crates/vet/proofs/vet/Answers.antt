@@ -5,6 +5,6 @@ use Rattle.vet.proofs.vet.Goals as goal
 
 pub returns : goal.returns
 returns c =
-    rw (← c.verdict-v.ensures)
-    (whole-added c.add_verdict.ensures
-    (le_trans (line-length c.verdict-v.result) c.requires))
+    let added = rw (c.new-text.ensures.empty.0, c.new-text.ensures.empty.1) at c.told.ensures.added in
+    let whole = whole-added added (le_trans (line-length _) c.requires) in
+    rw c.judge-v.ensures at whole

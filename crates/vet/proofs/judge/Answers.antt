@@ -3,7 +3,7 @@ use native.Mathlib.Omega.{arith}
 use lib.Seq.{length-take-le}
 use borrow.Author.Tests.{eq-eqb, ne_eqb}
 use Rattle.vet.specs.Line.{files_verdict}
-use Rattle.vet.proofs.verdict.Goals as goal
+use Rattle.vet.proofs.judge.Goals as goal
 
 pub returns-then-picture-ne-PICTURE : goal.returns-then-picture-ne-PICTURE
 unfolding files_verdict
