@@ -45,7 +45,7 @@ pub fn view(c: Condition, position: u32) -> Result<Shows, Refusal>
 }
 
 // The place of the user character of a code, where the condition is well formed and it is defined. Any number may be asked for;
-// none above 255 is a code.
+// none above 255 is a code. (The condition comes by value: behind a reference it is not known that its bytes are below 256.)
 fn lookup(c: Condition, code: u32) -> Option<usize>
     ensures { result ≡ lookup_of c code }
 {

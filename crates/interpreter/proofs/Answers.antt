@@ -10,9 +10,8 @@ use native.Mathlib.Nat.{add_assoc, add-zero}
 use borrow.Author.Tests.{eq-eqb, ne_eqb, leb-true, eqb-true, eqb-false, not-false}
 use Rattle.laws.proofs.Tests.{both, by-test, passed, number_by}
 use Rattle.refusals.specs.declared.Refusal.{Refusal}
-use Rattle.refusals.specs.declared.Refusal.TheVariants.{WrongLength, Damaged, OutOfRange, TooLong, TallyFull, HalfReceived}
-use Rattle.refusals.specs.declared.Refusal.TheVariants.{WrongMode, UserOnMove, NoCharacter, NoRoom, Lost}
 use Rattle.refusals.specs.Refusals.{number_of}
+use Rattle.refusals.proofs.Laws.{numbered}
 use Rattle.condition.specs.declared.Condition.{Condition}
 use Rattle.condition.specs.Condition.{well_formed}
 use Rattle.condition.specs.Bytes.{run_of}
@@ -49,20 +48,6 @@ within t e =
       flickerless = leb-true t.flickerless limit q.1;
       worst = leb-true t.worst limit p.1;
     }
-
--- no refusal has the number of what is accepted
-pub numbered : (e : Refusal) → number_of e ≡ 0 → ⊥
-numbered WrongLength z = omega arith
-numbered Damaged z = omega arith
-numbered OutOfRange z = omega arith
-numbered TooLong z = omega arith
-numbered TallyFull z = omega arith
-numbered HalfReceived z = omega arith
-numbered WrongMode z = omega arith
-numbered UserOnMove z = omega arith
-numbered NoCharacter z = omega arith
-numbered NoRoom z = omega arith
-numbered Lost z = omega arith
 
 -- refused, by its number
 not-run : (c : Condition) (t : Tally) (bs : List ℕ) (r : Ran) (n : ℕ) → r ≡ refused_of n c t → run_refusal c t bs ≡ n → (n ≡ 0 → ⊥)

@@ -17,7 +17,8 @@ use Rattle.row.proofs.Laws.{laid_none, laid-empty, laid_both}
 use Rattle.io.specs.Digits.{last_digits, IsDigitCount}
 use Rattle.interpreter.specs.Run.{Ran}
 use Rattle.lines.specs.declared.Text.{Text}
-use Rattle.lines.specs.Lines.{Added, Adds, each, digit, decimal_in, decimal_of, tally_line, refused_line, end_start, end_of, print_of}
+use Rattle.lines.specs.Lines.{Added, Adds, each, digit, decimal_in, decimal_of, tally_line, refused_line, end_start, end_of}
+use Rattle.lines.specs.Lines.{print_of}
 use Rattle.lines.specs.Lines.{code_text, hex_line, cell_lines}
 
 -- x laid from k on

@@ -55,9 +55,11 @@ pub one-run : (c : Lounge) (bs : List ℕ) (r s : Ran) → RunPromise c bs r →
 one-run c bs r s p q = p.answer ∙ sym q.answer
 
 -- and so are any two answers of the code, of a run and of a view
-pub one-ran : (c : Lounge) (bs : List ℕ) (r s : Result Lounge Refusal) → RunPromise c bs (ran c r) → RunPromise c bs (ran c s) → r ≡ s
+pub one-ran : (c : Lounge) (bs : List ℕ) (r s : Result Lounge Refusal) → RunPromise c bs (ran c r) → RunPromise c bs (ran c s)
+    → r ≡ s
 one-ran c bs r s p q =
-    one-answer (ran c) (λ a. a.refusal) (λ a. a.condition) (λ _. refl) (λ _. refl) (λ _. refl) r s (one-run c bs (ran c r) (ran c s) p q)
+    one-answer (ran c) (λ a. a.refusal) (λ a. a.condition) (λ _. refl) (λ _. refl) (λ _. refl) r s
+    (one-run c bs (ran c r) (ran c s) p q)
 
 abbrev of-seen : Seen → cell.Seen
 of-seen s = record { shows = s.shows; level = s.level; blinking = s.blinking; underlined = s.underlined }

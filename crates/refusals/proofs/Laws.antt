@@ -75,13 +75,15 @@ one-or-none (Some a) (Some b) h = ap Some (one-refusal a b h)
 
 -- An answer in the paper's words has a number and a value. Where these are 0 and x of `Ok x`, and the number is the refusal's of an
 -- `Err`, any two answers of the code that are the same in those words are the same
-pub one-answer : {A R : Type 0} (words : Result A Refusal → R) (number : R → ℕ) (value : R → A) → ((x : A) → number (words (Ok x)) ≡ 0)
+pub one-answer : {A R : Type 0} (words : Result A Refusal → R) (number : R → ℕ) (value : R → A)
+    → ((x : A) → number (words (Ok x)) ≡ 0)
     → ((x : A) → value (words (Ok x)) ≡ x) → ((e : Refusal) → number (words (Err e)) ≡ number_of e) → (r s : Result A Refusal)
     → words r ≡ words s → r ≡ s
 one-answer words number value accepted kept refused (Ok x) (Ok y) h = ap Ok (sym (kept x) ∙ ap value h ∙ kept y)
 one-answer words number value accepted kept refused (Ok x) (Err b) h =
     absurd (numbered b (sym (refused b) ∙ sym (ap number h) ∙ accepted x))
-one-answer words number value accepted kept refused (Err a) (Ok y) h = absurd (numbered a (sym (refused a) ∙ ap number h ∙ accepted y))
+one-answer words number value accepted kept refused (Err a) (Ok y) h =
+    absurd (numbered a (sym (refused a) ∙ ap number h ∙ accepted y))
 one-answer words number value accepted kept refused (Err a) (Err b) h =
     ap Err (one-refusal a b (sym (refused a) ∙ ap number h ∙ refused b))
 

@@ -1,4 +1,5 @@
--- Refusal numbers (document 01, Refusal numbers and their order; 11 is of document 02, W7). Each answer carries its refusal number, 0
+-- Refusal numbers (document 01, Refusal numbers and their order; 11 is of document 02, W7). Each answer carries its refusal
+-- number, 0
 -- when accepted; the code has a Result or an Option, and these give the paper's number for each of its cases.
 use Rattle.std.specs.Prelude.{ℕ, Result, Ok, Err, Option, None, Some}
 use Rattle.refusals.specs.declared.Refusal.{Refusal}

@@ -9,6 +9,7 @@ use lib.ListN.{length, get_or, drop, drop_of_length-le}
 use lib.Seq.{drop-cons}
 use borrow.Author.Tests.{eq-eqb, eqb-true}
 use Rattle.laws.proofs.Tests.{both}
+use Rattle.std.specs.Cmp.Lexicographic.{pointwise}
 use Rattle.row.specs.Row.{same_bytes}
 
 pub same_refl : (l : List ℕ) → same_bytes l l ≡ true
@@ -46,3 +47,11 @@ pub same_ended : (x y : List ℕ) (i : ℕ) (t : Bool) → length x ≤ i → le
     → (t && same_bytes (drop i x) (drop i y)) ≡ t
 unfolding same_bytes
 same_ended x y i t h l = rw (drop_of_length-le x h, drop_of_length-le y l) (and-true t)
+
+-- what `==` of two rows computes
+pub pointwise-same : (x y : List ℕ) → pointwise eqb x y ≡ same_bytes x y
+unfolding same_bytes
+pointwise-same [] [] = refl
+pointwise-same [] (y ∷ ys) = refl
+pointwise-same (x ∷ xs) [] = refl
+pointwise-same (x ∷ xs) (y ∷ ys) = ap (λ (t : Bool). eqb x y && t) (pointwise-same xs ys)

@@ -17,7 +17,8 @@ use Rattle.planner.specs.Plan.{Delivers}
 use Rattle.planner.specs.Fonts.{FontsDelivers}
 use Rattle.planner.specs.Clear.{either_plan, either_fonts_plan}
 use Rattle.planner.specs.Answer.{plan_refusal, fonts_refusal, out_by}
-use Rattle.reel.specs.Reel.{Stop, Reeled, Picture, pictures_of, plans_of, naming64, matching, first_refused, whole_refusal, written_by}
+use Rattle.reel.specs.Reel.{Stop, Reeled, Picture, pictures_of, plans_of, naming64, matching, first_refused, whole_refusal}
+use Rattle.reel.specs.Reel.{written_by}
 use Rattle.reel.specs.Reel.{lengths_of}
 use Rattle.reel.specs.Reel.{reel_out, PicturesInTurn, Promise}
 use Rattle.vetting.specs.Verdicts.{Verdict, Refused, Byte, Cell, Cursor, Yes}

@@ -157,7 +157,8 @@ module _ (bound : ℕ) (us : List ℕ) (count code : ℕ) (l : count ≤ room_of
   ready : 0 < room_of us → Ready bound code (without (leaving_of (users_in us count) code) (in_room (users_in us count)))
   unfolding without room_of
   ready r =
-      rw (limit-count us count l) (by-leaving (users_in us count) (λ (f : Option ℕ). Ready bound code (without f (users_in us count)))
+      rw (limit-count us count l)
+      (by-leaving (users_in us count) (λ (f : Option ℕ). Ready bound code (without f (users_in us count)))
       (found_in us count code)
       (λ k e. let f = found-holds us count l code k e in ready_at k f.0 (λ i m y. p.apart i k m f.0 (y ∙ sym f.1)))
       (λ e m. record { places = p; new = found-misses us count l code e; fits = omega arith })

@@ -1,6 +1,7 @@
 -- User characters (document 01, The condition; document 02, W3, W8): code and five bytes, oldest first, in places of six bytes, as
 -- many as the bytes have room for: 16 in a condition, eight in that of the lounge module.
-use Rattle.std.specs.Prelude.{ℕ, zero, suc, ◌+◌, ◌-◌, ◌*◌, ◌/◌, min, Option, None, Some, List, [], ◌∷◌, ◌++◌, Bool, true, false, cond, not, ◌&&◌}
+use Rattle.std.specs.Prelude.{ℕ, zero, suc, ◌+◌, ◌-◌, ◌*◌, ◌/◌, min, Option, None, Some, List, [], ◌∷◌, ◌++◌, Bool, true, false}
+use Rattle.std.specs.Prelude.{cond, not, ◌&&◌}
 use Rattle.std.specs.Option.{is_some}
 use Rattle.std.specs.Prelude.{length, get_or, take, drop, replicate, eqb, ltb, leb}
 use Rattle.std.proofs.lemmas.List.Edits.{sets}

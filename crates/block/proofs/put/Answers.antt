@@ -27,4 +27,5 @@ pub returns : goal.returns
 returns c =
     rw (c.copy_from_slice.ensures.after, c.packed-first.ensures)
     (put-block c.args.c (sized (goal.at.returns c).Start) c.args.out.now _ _ (c.weighed.result % 65521) c.if-room-lt-LENGTH.false
-    (rw (c.weighed.ensures, c.packed-first.ensures) refl) (search rules) (rw c.copy_from_slice-2.ensures.after (c.to_le_bytes.ensures ∙ check-bytes _ (omega arith))))
+    (rw (c.weighed.ensures, c.packed-first.ensures) refl) (search rules)
+    (rw c.copy_from_slice-2.ensures.after (c.to_le_bytes.ensures ∙ check-bytes _ (omega arith))))

@@ -40,4 +40,8 @@ returns c =
     rw (c.is_user.ensures, c.is_idle.ensures, c.held_formed.ensures, c.held.ensures)
     (rw (c.are_formed.ensures, c.up_to.ensures, absent-unfound a.users.now.bytes.now a.users.now.count 0x1b (omega arith))
     (rw (eq-eqb _ _ c.if-fonts-ne-CELLS.false, eq-eqb _ _ sized)
-    (rw (eq-eqb _ _ c.if-held-ne-HELD.false, le-leb _ _ l, le-leb a.users.now.count (min 255 (length a.users.now.bytes.now / 6)) (omega arith)))))
+    (rw (
+      eq-eqb _ _ c.if-held-ne-HELD.false,
+      le-leb _ _ l,
+      le-leb a.users.now.count (min 255 (length a.users.now.bytes.now / 6)) (omega arith),
+    ))))

@@ -27,8 +27,22 @@ unfolding shows_code
 returns-then-font-eq0 c =
     let u = user (goal.at.returns-then-font-eq0 c).After-is_user c.if-is_user.false in
     elim c.if-c.branch [
-      | then-c w ↦ rw (w.result-is, u, le-ltb _ _ c.if-code-lt32.false, eq-eqb _ _ c.if-code-eq173.true, eq-eqb _ _ c.if-font-eq0.true, w.if-c.true)
-      | else-c w ↦ rw (w.result-is, u, le-ltb _ _ c.if-code-lt32.false, eq-eqb _ _ c.if-code-eq173.true, eq-eqb _ _ c.if-font-eq0.true, w.if-c.false)
+      | then-c w ↦ rw (
+        w.result-is,
+        u,
+        le-ltb _ _ c.if-code-lt32.false,
+        eq-eqb _ _ c.if-code-eq173.true,
+        eq-eqb _ _ c.if-font-eq0.true,
+        w.if-c.true,
+      )
+      | else-c w ↦ rw (
+        w.result-is,
+        u,
+        le-ltb _ _ c.if-code-lt32.false,
+        eq-eqb _ _ c.if-code-eq173.true,
+        eq-eqb _ _ c.if-font-eq0.true,
+        w.if-c.false,
+      )
     ]
 
 pub returns : goal.returns

@@ -4,4 +4,5 @@ use Rattle.planner.specs.Answer.{Planned, planned}
 use Rattle.index_entry.proofs.of_plan.Goals as goal
 
 pub returns : goal.returns
-returns c = c.number.ensures ∙ number-in planned (λ a. a.refusal) (λ _. refl) (λ _. refl) _ ∙ ap (λ (a : Planned). a.refusal) c.plan.ensures.answer
+returns c = c.number.ensures ∙ number-in planned (λ a. a.refusal) (λ _. refl) (λ _. refl) _
+    ∙ ap (λ (a : Planned). a.refusal) c.plan.ensures.answer

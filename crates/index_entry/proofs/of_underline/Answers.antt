@@ -4,4 +4,5 @@ use Rattle.glass.specs.Answers.{Answer, answer}
 use Rattle.index_entry.proofs.of_underline.Goals as goal
 
 pub returns : goal.returns
-returns c = c.number.ensures ∙ number-in answer (λ a. a.refusal) (λ _. refl) (λ _. refl) _ ∙ ap (λ (a : Answer). a.refusal) c.underline.ensures
+returns c = c.number.ensures ∙ number-in answer (λ a. a.refusal) (λ _. refl) (λ _. refl) _
+    ∙ ap (λ (a : Answer). a.refusal) c.underline.ensures

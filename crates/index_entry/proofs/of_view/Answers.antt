@@ -4,4 +4,5 @@ use Rattle.glass.specs.Answers.{Seen, seen}
 use Rattle.index_entry.proofs.of_view.Goals as goal
 
 pub returns : goal.returns
-returns c = c.number.ensures ∙ number-in seen (λ a. a.refusal) (λ _. refl) (λ _. refl) _ ∙ ap (λ (a : Seen). a.refusal) c.view.ensures
+returns c = c.number.ensures ∙ number-in seen (λ a. a.refusal) (λ _. refl) (λ _. refl) _
+    ∙ ap (λ (a : Seen). a.refusal) c.view.ensures

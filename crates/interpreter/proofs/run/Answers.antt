@@ -8,7 +8,9 @@ use Rattle.inplace.specs.InPlace.{Carried}
 use Rattle.inplace.proofs.Running.{Small}
 use Rattle.inplace.proofs.Carrying.{refusal_is, taken, accepts}
 use Rattle.interpreter.specs.Run.{within_limit}
-use Rattle.interpreter.proofs.Answers.{Within, within, numbered, above-limit, not_carried, passes-limit, accepted, adds, tallies, ran_as}
+use Rattle.refusals.proofs.Laws.{numbered}
+use Rattle.interpreter.proofs.Answers.{Within, within, above-limit, not_carried, passes-limit, accepted, adds, tallies}
+use Rattle.interpreter.proofs.Answers.{ran_as}
 use borrow.Author.Rules.{rules}
 use Rattle.interpreter.proofs.run.Goals as goal
 use Rattle.interpreter.proofs.run.Goals.{In_ok-condition}

@@ -11,4 +11,5 @@ returns c =
       c.copy_from_slice-3.ensures.after,
       c.copy_from_slice-4.ensures.after,
     )
-    (four-parts a.s.now a.first.now a.c.now.codes a.c.now.fonts a.c.now.users.bytes c.told-s (search rules) (search rules) (search rules))
+    (four-parts a.s.now a.first.now a.c.now.codes a.c.now.fonts a.c.now.users.bytes c.told-s (search rules) (search rules)
+    (search rules))

@@ -16,5 +16,6 @@ pub returns : goal.returns
 returns c =
     let a = c.args in
     let h : length a.cells.now ≡ 40 = search rules in
-    let e : c.fill.new.self ≡ replicate (length (mid_of 20 (length c.copy_within.new.self - 20) c.copy_within.new.self)) a.v = search rules in
+    let e : c.fill.new.self ≡ replicate (length (mid_of 20 (length c.copy_within.new.self - 20) c.copy_within.new.self)) a.v =
+    search rules in
     rw (on-picture (scrolled a.v) a.cells.now h, e) (scroll-law a.cells.now _ a.v h c.copy_within.ensures.after)

@@ -27,4 +27,5 @@ pub returns : goal.returns
 unfolding host_recover_refusal
 returns c =
     let p = recovers-in _ _ (in_block _ _ c.in_ok-c.ensures refl) _ _ _ c.in_ok-length.ensures in
-    host-exactly _ _ _ _ (plan-done _ _ _ _ _ _ refl _ c.in_ok-c.ensures _ _ _ refl (λ w. unformed _ _ w) p.gives (rw c.from.ensures))
+    host-exactly _ _ _ _ (plan-done _ _ _ _ _ _ refl _ c.in_ok-c.ensures _ _ _ refl (λ w. unformed _ _ w) p.gives
+    (rw c.from.ensures))

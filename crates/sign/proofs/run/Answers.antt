@@ -16,7 +16,8 @@ pub returns-in_err-ran : goal.returns-in_err-ran
 returns-in_err-ran c =
     let e = err_from_is_err_and c.from_residual-in_err-ran.result c.from_residual-in_err-ran.ensures.1 in
     rw (e.1, e.2)
-    (run-stopped _ _ _ c.if-tally-ne-TALLY.false _ c.in_ok-c.ensures _ _ refl c.tally_at-t.ensures c.in_err-ran.ensures (numbered _))
+    (run-stopped _ _ _ c.if-tally-ne-TALLY.false _ c.in_ok-c.ensures _ _ refl c.tally_at-t.ensures c.in_err-ran.ensures
+    (numbered _))
 
 pub returns : goal.returns
 returns c =

@@ -8,7 +8,8 @@ use Rattle.tell.proofs.user.Goals as goal
 pub returns : goal.returns
 unfolding user_line
 returns c =
-    let underline = c.unwrap_or-underline.ensures ∙ value-or-0 c.underline.result ∙ ap (λ (a : Answer). a.value) c.underline.ensures in
+    let underline = c.unwrap_or-underline.ensures ∙ value-or-0 c.underline.result
+    ∙ ap (λ (a : Answer). a.value) c.underline.ensures in
     let lit = c.unwrap_or-lit.ensures ∙ value-or-0 c.lit.result ∙ ap (λ (a : Answer). a.value) c.lit.ensures in
     both-adds c.hex.ensures
     (both-adds c.word.ensures

@@ -29,7 +29,8 @@ told (Ok n) = refl
 told (Err refusal) = refl
 
 -- the refusal number is that of the promise
-told_number : (c : Condition) (wanted : List ℕ) (asked : ℕ) (string : List ℕ) (r : Result ℕ Refusal) → Counts c wanted asked (planned r)
+told_number : (c : Condition) (wanted : List ℕ) (asked : ℕ) (string : List ℕ) (r : Result ℕ Refusal)
+    → Counts c wanted asked (planned r)
     → long_refusal (refusal_in r) (length string) ≡ vet_refusal c wanted asked string
 unfolding vet_refusal
 told_number c wanted asked string r e = rw (told r ∙ ap (λ (p : Planned). p.refusal) e)

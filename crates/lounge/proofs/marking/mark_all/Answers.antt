@@ -3,7 +3,8 @@ use Rattle.lounge.specs.Marks.{marked}
 use Rattle.lounge.proofs.marking.mark_all.Goals as goal
 
 pub loop-m-preserved : goal.loop-m-preserved
-loop-m-preserved c = let l = c.loop-m in map-turn (marked c.args.k) c.args.marks.now l.m-items l.m-index l.invariant c.loop-m-test.true
+loop-m-preserved c = let l =
+    c.loop-m in map-turn (marked c.args.k) c.args.marks.now l.m-items l.m-index l.invariant c.loop-m-test.true
 
 pub returns : goal.returns
 returns c = let l = c.loop-m in map-done (marked c.args.k) c.args.marks.now l.m-items l.m-index l.invariant c.loop-m-test.false

@@ -57,7 +57,8 @@ returns-then-some_lacks c = rw (
   sym c.is_idle.ensures ∙ c.if-not-is_idle.false,
   eq-eqb _ _ c.if-c-ne1.false,
   c.if-blocked.false,
-  sym (c.some_lacks.ensures ∙ ap (λ u. some_lacks u c.args.wanted.now) (at-list c.args.c.now.users _ _ c.list.ensures)) ∙ c.if-some_lacks.true,
+  sym (c.some_lacks.ensures ∙ ap (λ u. some_lacks u c.args.wanted.now) (at-list c.args.c.now.users _ _ c.list.ensures))
+      ∙ c.if-some_lacks.true,
 )
 
 pub returns-then-short : goal.returns-then-short
@@ -69,7 +70,8 @@ returns-then-short c = rw (
   sym c.is_idle.ensures ∙ c.if-not-is_idle.false,
   eq-eqb _ _ c.if-c-ne1.false,
   c.if-blocked.false,
-  sym (c.some_lacks.ensures ∙ ap (λ u. some_lacks u c.args.wanted.now) (at-list c.args.c.now.users _ _ c.list.ensures)) ∙ c.if-some_lacks.false,
+  sym (c.some_lacks.ensures ∙ ap (λ u. some_lacks u c.args.wanted.now) (at-list c.args.c.now.users _ _ c.list.ensures))
+      ∙ c.if-some_lacks.false,
   c.if-short.true,
 )
 
@@ -82,6 +84,7 @@ returns c = rw (
   sym c.is_idle.ensures ∙ c.if-not-is_idle.false,
   eq-eqb _ _ c.if-c-ne1.false,
   c.if-blocked.false,
-  sym (c.some_lacks.ensures ∙ ap (λ u. some_lacks u c.args.wanted.now) (at-list c.args.c.now.users _ _ c.list.ensures)) ∙ c.if-some_lacks.false,
+  sym (c.some_lacks.ensures ∙ ap (λ u. some_lacks u c.args.wanted.now) (at-list c.args.c.now.users _ _ c.list.ensures))
+      ∙ c.if-some_lacks.false,
   c.if-short.false,
 )

@@ -24,8 +24,10 @@ write_block-requires g c =
 pub loop-i-preserved : goal.loop-i-preserved
 loop-i-preserved g c =
     let l = c.loop-i in
-    let took : Consumes (g.R.Read.remaining l.input) (g.R.Read.remaining c.read_block.new.file) c.read_block.new.block = search rules in
-    let gave : Appends (g.W.Write.contents l.output) (g.W.Write.contents c.write_block.new.file) c.judge.new.self.block = search rules in
+    let took : Consumes (g.R.Read.remaining l.input) (g.R.Read.remaining c.read_block.new.file) c.read_block.new.block =
+    search rules in
+    let gave : Appends (g.W.Write.contents l.output) (g.W.Write.contents c.write_block.new.file) c.judge.new.self.block =
+    search rules in
     copying-turns _ l.invariant (search rules) (search rules) c.judge.ensures took gave
 
 pub returns-clause-copied : goal.returns-clause-copied

@@ -7,8 +7,11 @@ pub returns-in-len1-up : goal.returns-in-len1-up
 returns-in-len1-up c = (reads-move _ _ (sym c.is_move.ensures ∙ c.if-is_move.true) _ c.led.ensures, λ z. omega arith)
 
 pub returns-in-27 : goal.returns-in-27
-returns-in-27 c =
-    (reads-jump c.args.s.now _ (sym c.is_move.ensures ∙ c.if-is_move.false) (omega arith) (omega arith) (omega arith) (omega arith), λ z. omega arith)
+returns-in-27 c = (
+  reads-jump c.args.s.now _ (sym c.is_move.ensures ∙ c.if-is_move.false) (omega arith) (omega arith) (omega arith)
+      (omega arith),
+  λ z. omega arith,
+)
 
 pub returns-in_default : goal.returns-in_default
 returns-in_default c = reads-nothing _ _ (omega arith)
