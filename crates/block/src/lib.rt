@@ -98,6 +98,7 @@ fn is_intact(block: &[u8; LENGTH], sum: u32) -> bool
     block.starts_with(&[layout::FIRST, layout::SECOND, layout::THIRD]) & block.ends_with(&check)
 }
 
+// Of the three bytes, whatever they are: a `Pending` made of them would not tell what stood there.
 fn kind_good(kind: u8, code: u8, holds: u8) -> bool
     ensures { result ≡ kind_good kind code holds }
 {

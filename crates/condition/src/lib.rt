@@ -21,6 +21,7 @@ pub enum Pending {
     UserData(u8, u8),
 }
 
+// Mode and fonts are numbers, and no enums: a condition may be given with any, and `well_formed` says which are right.
 #[derive(Clone, Copy)]
 pub struct Condition {
     // The 40 cells: a code each, and a font each.

@@ -58,7 +58,7 @@ pub const SECOND: u8 = 0x4b;
 
 pub const THIRD: u8 = 0x01;
 
-// A half-received command in its three bytes.
+// A half-received command in its three bytes. Its kinds have numbers here alone, those of the block.
 #[derive(Clone, Copy)]
 pub struct Half {
     pub kind: u8,

@@ -32,6 +32,7 @@ pub fn read_full<R: Read>(from: &mut R, buf: &mut [u8]) -> (usize, Result<(), Er
     ensures end { OnOk result.1 (result.0 < length buf.new → IsAtEnd (R.remaining from.new)) }
 {
     let mut n: usize = 0;
+    // no `for`: how many bytes a read gives is not known before
     while n < buf.len() {
         match from.read(&mut buf[n..]) {
             Ok(0) => return (n, Ok(())),

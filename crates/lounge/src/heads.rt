@@ -6,7 +6,7 @@ use crate::{Lounge, Pending};
 
 pub const BYTES: usize = 13;
 
-// What is half received: its kind, code and number.
+// What is half received: its kind, code and number. (The kinds have numbers in the head alone, which is bytes.)
 fn half_of(p: Pending) -> (u8, u8, u8)
     ensures { (result.0 ≡ kind_of p) × (result.1 ≡ code_of p) × (result.2 ≡ number_of p) }
 {

@@ -10,7 +10,8 @@ use crate::cells::{codes_at, differs, fonts_at};
 use crate::counts::CLEAR;
 use crate::task::Task;
 
-// Puts the way from p to q at k; answers the place behind it.
+// Puts the way from p to q at k; answers the place behind it. (The output and the place are two parameters, here and below: the
+// plan is put into a lent slice, and a struct of both would be made for three functions.)
 fn put_way(out: &mut [u8], k: usize, p: u8, q: u8) -> usize
     requires { (p < 40) × (q < 40) × (k + length (path p q) ≤ length out.old) }
     ensures { (result ≡ k + length (path p q)) × (out.new ≡ sets out.old k (path p q)) }

@@ -144,6 +144,7 @@ fn read_rest<R: Read>(from: &mut R, n: usize) -> Option<Rest>
     let mut rest = None;
     let mut piece = [0u8; MOST];
     let mut size = n;
+    // no `for`: how many pieces there are is known when one is not full
     let mut left: u64 = 0xFFFFFFFFFFFFFFFF;
     while (size == MOST) & (0 < left) {
         let (more_read, _) = lines::read_full(from, &mut piece);

@@ -155,7 +155,8 @@ fn put(bytes: &mut [u8], at: usize, code: u8, held: [u8; 4], last: u8)
     bytes[at + 5] = last;
 }
 
-// The place that goes when a code is defined: its own; where it has none, with all places in use, the oldest.
+// The place that goes when a code is defined: its own; where it has none, with all places in use, the oldest. (The bytes and their
+// count come one by one here and to `define`, which changes the bytes: a `UserList` only looks at them.)
 fn leaving(bytes: &[u8], count: u8, code: u8) -> Option<usize>
     ensures { result ≡ leaving_of (users_in bytes.now count) code }
 {
