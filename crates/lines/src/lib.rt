@@ -13,7 +13,7 @@ mod system;
 use interpreter::Ran;
 use refusals::Refusal;
 use std::fmt;
-pub use system::{EIO, PATH, arg, fail, has_args, open, path, read_full, say};
+pub use system::{EIO, PATH, arg, fail, has_args, path, read_full, say};
 
 const CELLS: usize = 40;
 

@@ -7,7 +7,6 @@ ghost use Rattle.io.specs.Counts.{IsPrefixLen};
 use crate::Text;
 use std::env::{Env, FillError};
 use std::fmt::Write;
-use std::fs::File;
 use std::io::{Error, Print, Read};
 use std::str::from_utf8;
 
@@ -70,11 +69,6 @@ pub fn path(name: &[u8]) -> Result<&str, Error>
         Ok(text) => Ok(text),
         Err(_) => Err(Error::from_raw_os_error(EILSEQ)),
     }
-}
-
-// The file of this name, to be read.
-pub fn open(rt: HostRuntime, name: &[u8]) -> Result<File, Error> {
-    File::open(&rt, path(name)?)
 }
 
 // How much of the words stands before ` (os error N)`, with which they end; all, where they do not.

@@ -3,6 +3,7 @@ ghost use Rattle.std.specs.Prelude.{OnOk};
 ghost use Rattle.std.specs.Io.KnownBytes.{Consumes};
 
 use crate::failure::Why;
+use lines::path;
 use std::fs::File;
 use std::io::{Read, Seek, SeekFrom};
 
@@ -15,7 +16,8 @@ pub(crate) fn is_regular(file: &File) -> bool {
 
 // The file of this name.
 pub(crate) fn open(rt: HostRuntime, name: &[u8]) -> Result<File, Why> {
-    Ok(lines::open(rt, name)?)
+    let file = File::open(&rt, path(name)?)?;
+    Ok(file)
 }
 
 // A directory can be opened and cannot be read, and that is what is said of it.

@@ -6,7 +6,7 @@ ghost use Rattle.salvage.specs.Steps.{Due, Sourced, Copied};
 
 use crate::blocks::StandIn;
 use crate::failure::{Failure, Names, Why};
-use crate::input::{is_regular, read_block};
+use crate::input::{is_regular, open, read_block};
 use lines::{EIO, Text, fail, path};
 use std::fs::{File, OpenOptions, remove_file, rename, symlink_metadata};
 use std::io::{ErrorKind, Read, Write};
@@ -110,7 +110,7 @@ fn folder(name: &[u8]) -> usize
 fn settle(rt: HostRuntime, name: &[u8]) {
     let n = folder(name);
     let folder = if n == 0 { b"." } else { &name[..n] };
-    if let Ok(file) = lines::open(rt, folder) {
+    if let Ok(file) = open(rt, folder) {
         if let Err(e) = file.sync_all() {
             if e.raw_os_error() == Some(EIO) {
                 fail(rt, name, e);

@@ -126,7 +126,8 @@ fn add_report(out: &mut Text<'_>, c: &Lounge)
 // What is shown of an input, of its first bytes and the rest: the report of the run, or its refusal alone.
 fn show<'a>(out: &'a mut [u8], first: &[u8], rest: Option<Rest>) -> Text<'a>
     requires { 512 ≤ length out.old }
-    ensures { ShownAll first.now (known rest) (take result.size result.out.now) }
+    ensures { (ShownAll first.now (known rest) (take result.size result.out.now))
+        × (result.size ≤ length result.out.now) }
 {
     let mut text = Text::new(out);
     match ran(first, rest) {

@@ -2,7 +2,8 @@
 ghost use Rattle.std.specs.Prelude.{◌≤◌, ◌<◌, length, take, IfOk, IfSome};
 ghost use Rattle.std.specs.Io.KnownBytes.{Consumes, IsAtEnd};
 
-use lines::{PATH, arg, fail, open, read_full};
+use lines::{PATH, arg, fail, path, read_full};
+use std::fs::File;
 use std::io::{Error, Read};
 
 // Reads to the end, or until the buffer is full: what was read are the next bytes of the file, all of them where there is room left.
@@ -21,7 +22,7 @@ fn read_all<R: Read>(file: &mut R, buf: &mut [u8]) -> Result<usize, Error>
 fn read_named(rt: HostRuntime, name: &[u8], buf: &mut [u8]) -> Result<usize, Error>
     ensures { IfOk result (λ n. n ≤ length buf.new) }
 {
-    let mut file = open(rt, name)?;
+    let mut file = File::open(&rt, path(name)?)?;
     read_all(&mut file, buf)
 }
 

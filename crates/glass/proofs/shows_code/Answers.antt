@@ -26,23 +26,10 @@ pub returns-then-font-eq0 : goal.returns-then-font-eq0
 unfolding shows_code
 returns-then-font-eq0 c =
     let u = user (goal.at.returns-then-font-eq0 c).After-is_user c.if-is_user.false in
+    let l = le-ltb _ _ c.if-code-lt32.false in
     elim c.if-c.branch [
-      | then-c w ↦ rw (
-        w.result-is,
-        u,
-        le-ltb _ _ c.if-code-lt32.false,
-        eq-eqb _ _ c.if-code-eq173.true,
-        eq-eqb _ _ c.if-font-eq0.true,
-        w.if-c.true,
-      )
-      | else-c w ↦ rw (
-        w.result-is,
-        u,
-        le-ltb _ _ c.if-code-lt32.false,
-        eq-eqb _ _ c.if-code-eq173.true,
-        eq-eqb _ _ c.if-font-eq0.true,
-        w.if-c.false,
-      )
+      | then-c w ↦ rw (w.result-is, u, l, eq-eqb _ _ c.if-code-eq173.true, eq-eqb _ _ c.if-font-eq0.true, w.if-c.true)
+      | else-c w ↦ rw (w.result-is, u, l, eq-eqb _ _ c.if-code-eq173.true, eq-eqb _ _ c.if-font-eq0.true, w.if-c.false)
     ]
 
 pub returns : goal.returns

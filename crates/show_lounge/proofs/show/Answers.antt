@@ -27,7 +27,8 @@ returns-in-Ok c =
     let l = report-length k s (few-users k (fit k s (ran-formed _ _ _ a.answer))) in
     let t = c.new-text.ensures.empty in
     let p = rw (t.0, t.1) at c.add_report.ensures.added in
-    shown-all _ _ _ _ a (whole-added p (le_trans l c.requires)).0
+    let w = whole-added p (le_trans l c.requires) in
+    (shown-all _ _ _ _ a w.0, w.1)
 
 pub returns-in-Err : goal.returns-in-Err
 unfolding shown_of
@@ -36,5 +37,5 @@ returns-in-Err c =
     let t = c.new-text.ensures.empty in
     let p = rw (t.0, t.1, c.from.ensures) at c.refused.ensures.added in
     let l : length (refused_line n) ≤ 512 = omega (arith, refused-length n) in
-    shown-all _ _ _ _ c.in-Err.ensures
-    ((whole-added p (le_trans l c.requires)).0 ∙ rw (ne_eqb n 0 (numbered c.in-Err.refusal)))
+    let w = whole-added p (le_trans l c.requires) in
+    (shown-all _ _ _ _ c.in-Err.ensures (w.0 ∙ rw (ne_eqb n 0 (numbered c.in-Err.refusal))), w.1)
