@@ -52,17 +52,17 @@ extern "C" {
 /* Stack that a call needs on x86-64, in bytes, from its return address down, with all that it calls
    (the C library's memcpy and memset by their return address alone). The test `stack` compares
    these lines with the compiled code.
-     sign_power_up   1,336
-     sign_run        4,568
-     sign_plan       2,216
-     sign_plan_fonts 2,408
-     sign_reel       2,776
-     sign_vet        2,504
-     sign_recover    2,248
-     sign_view       2,328
-     sign_dot        2,232
-     sign_underline  2,232
-     sign_lit        2,232
+     sign_power_up   1,624
+     sign_run        5,512
+     sign_plan       3,016
+     sign_plan_fonts 2,984
+     sign_reel       4,024
+     sign_vet        3,224
+     sign_recover    2,456
+     sign_view       2,440
+     sign_dot        2,904
+     sign_underline  2,440
+     sign_lit        2,440
    A host that makes one call after the other needs the largest of those that it makes.
    The code also uses the red zone, the 128 bytes below the stack pointer that the x86-64 ABI leaves
    to a function. A signal handler on the same stack needs its own frame and those 128 bytes
