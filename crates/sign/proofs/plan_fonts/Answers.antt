@@ -1,7 +1,7 @@
 use mathlib.Core.Path.{◌≡◌, refl}
 use mathlib.Core.Bool.{true, ◌&&◌}
 use lib.Dec.{eqb}
-use lib.ListN.{length}
+use Prim.Native.Nat.{ℕ}
 use borrow.Author.Tests.{eq-eqb, ne_eqb}
 use Rattle.std.proofs.lemmas.Result.{err_from_is_err_and}
 use Rattle.planner.specs.Answer.{fonts_refusal}
@@ -11,15 +11,12 @@ use Rattle.host.proofs.Once.{in_block}
 use Rattle.refusals.proofs.Laws.{numbered}
 use Rattle.sign.proofs.Hosted.{plan-short, plan-damaged, plan-done, fonts-in}
 use Rattle.sign.proofs.plan_fonts.Goals as goal
-use Rattle.sign.proofs.plan_fonts.Goals.{then-codes-ne-CELLS-via-then-codes-ne-CELLS, Else-fonts-ne-CELLS}
+use Rattle.sign.proofs.plan_fonts.Goals.{then-codes-ne-CELLS-via-then-codes-ne-CELLS}
 use Rattle.sign.proofs.plan_fonts.Goals.{then-codes-ne-CELLS-via-else-codes-ne-CELLS+then-fonts-ne-CELLS}
 
 -- there are 40 codes and 40 fonts
-abbrev Fits : Else-fonts-ne-CELLS → Type 0
-Fits c = (eqb (length c.args.codes.now) 40 && eqb (length c.args.fonts.now) 40) ≡ true
-
-fits : (c : Else-fonts-ne-CELLS) → Fits c
-fits c = rw (eq-eqb _ 40 c.if-codes-ne-CELLS.false, eq-eqb _ 40 c.if-fonts-ne-CELLS.false)
+fits : (codes fonts : ℕ) → codes ≡ 40 → fonts ≡ 40 → (eqb codes 40 && eqb fonts 40) ≡ true
+fits codes fonts c f = rw (eq-eqb codes 40 c, eq-eqb fonts 40 f)
 
 pub returns-then-codes-ne-CELLS : goal.returns-then-codes-ne-CELLS
 unfolding host_fonts_refusal
@@ -35,13 +32,14 @@ unfolding host_fonts_refusal
 returns-in_err-c c =
     let e = err_from_is_err_and c.from_residual.result c.from_residual.ensures.1 in
     rw (e.1, e.2)
-    (plan-damaged _ _ _ _ _ _ (fits (goal.at.returns-in_err-c c).Else-fonts-ne-CELLS) _ c.in_err-c.ensures (numbered _))
+    (plan-damaged _ _ _ _ _ _ (fits _ _ c.if-codes-ne-CELLS.false c.if-fonts-ne-CELLS.false) _ c.in_err-c.ensures
+    (numbered _))
 
 pub returns-in_err-length : goal.returns-in_err-length
 unfolding host_fonts_refusal fonts_refusal
 returns-in_err-length c =
     let e = err_from_is_err_and c.from_residual-in_err-length.result c.from_residual-in_err-length.ensures.1 in
-    let fit = fits (goal.at.returns-in_err-length c).Else-fonts-ne-CELLS in
+    let fit = fits _ _ c.if-codes-ne-CELLS.false c.if-fonts-ne-CELLS.false in
     let p = fonts-in _ _ (in_block _ _ c.in_ok-c.ensures refl) _ _ _ _ _ _ c.in_err-length.ensures in
     rw (e.1, e.2)
     (plan-done _ _ _ _ _ _ fit _ c.in_ok-c.ensures _ _ _ refl (λ w. unformed _ _ _ _ _ _ fit w) p refl)
@@ -49,6 +47,6 @@ returns-in_err-length c =
 pub returns : goal.returns
 unfolding host_fonts_refusal fonts_refusal
 returns c =
-    let fit = fits (goal.at.returns c).Else-fonts-ne-CELLS in
+    let whole = fits _ _ c.if-codes-ne-CELLS.false c.if-fonts-ne-CELLS.false in
     let p = fonts-in _ _ (in_block _ _ c.in_ok-c.ensures refl) _ _ _ _ _ _ c.in_ok-length.ensures in
-    plan-done _ _ _ _ _ _ fit _ c.in_ok-c.ensures _ _ _ refl (λ w. unformed _ _ _ _ _ _ fit w) p (rw c.from.ensures)
+    plan-done _ _ _ _ _ _ whole _ c.in_ok-c.ensures _ _ _ refl (λ w. unformed _ _ _ _ _ _ whole w) p (rw c.from.ensures)
