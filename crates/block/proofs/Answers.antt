@@ -7,16 +7,19 @@ use native.Mathlib.Omega.{arith}
 use lib.ListN.{length, take, drop}
 use lib.Seq.{take_at}
 use borrow.Author.Tests.{ne_eqb, lt-ltb, le-ltb}
-use Rattle.std.specs.Prelude.{Option, None, Some}
+use Rattle.std.specs.Prelude.{Option, None, Some, Result}
 use Rattle.refusals.specs.declared.Refusal.{Refusal}
 use Rattle.refusals.specs.Refusals.{number_or_none}
+use Rattle.refusals.proofs.Laws.{one-answer}
 use Rattle.condition.specs.declared.Condition.{Condition}
-use Rattle.condition.specs.Condition.{well_formed, Outcome}
+use Rattle.condition.specs.Condition.{well_formed, Outcome, outcome}
 use Rattle.layout.specs.Layout.{unpacked_of}
 use Rattle.block.specs.Block.{block_of}
 use Rattle.block.specs.Reading.{read_refusal, damage_of, refused_of, read_answer, ReadPromise}
 use Rattle.block.specs.Writing.{Written, write_refusal, write_answer, write_out, WritePromise}
+use Rattle.block.specs.Writing.{written as told_of}
 use Rattle.condition.proofs.Good.{Sized}
+use Rattle.condition.proofs.Kept.{one-outcome}
 use Rattle.block.proofs.Sealing.{length-block}
 use Rattle.block.proofs.Damaged.{read_by, whole-unpacked}
 use Rattle.block.proofs.RoundTrip.{reread, rewritten, read-formed}
@@ -97,3 +100,16 @@ one-reading b r s p q = p.answer ∙ sym q.answer
 pub one-writing : (c : Condition) (out : List ℕ) (r s : Written) (x y : List ℕ)
     → WritePromise c out r x → WritePromise c out s y → (r ≡ s) × (x ≡ y)
 one-writing c out r s x y p q = (p.answer ∙ sym q.answer, p.buffer ∙ sym q.buffer)
+
+-- and so are any two answers of the code
+pub same-reading : (b : List ℕ) (r s : Result Condition Refusal) → ReadPromise b (outcome r) → ReadPromise b (outcome s) → r ≡ s
+same-reading b r s p q = one-outcome r s (one-reading b (outcome r) (outcome s) p q)
+
+pub one-written : (r s : Result ℕ Refusal) → told_of r ≡ told_of s → r ≡ s
+one-written = one-answer told_of (λ a. a.refusal) (λ a. a.length) (λ _. refl) (λ _. refl) (λ _. refl)
+
+pub same-writing : (c : Condition) (out : List ℕ) (r s : Result ℕ Refusal) (x y : List ℕ)
+    → WritePromise c out (told_of r) x → WritePromise c out (told_of s) y → (r ≡ s) × (x ≡ y)
+same-writing c out r s x y p q =
+    let e = one-writing c out (told_of r) (told_of s) x y p q in
+    (one-written r s e.0, e.1)

@@ -8,6 +8,9 @@ use lib.Dec.{ltb}
 use lib.ListN.{length}
 use borrow.Author.Tests.{eq-eqb, ne_eqb, lt-ltb, le-ltb, ltb-false, not-false}
 use Rattle.laws.proofs.Tests.{passed, number_by}
+use Rattle.std.specs.Prelude.{Result}
+use Rattle.refusals.specs.declared.Refusal.{Refusal}
+use Rattle.refusals.proofs.Laws.{one-answer}
 use Rattle.row.specs.Row.{same_bytes}
 use Rattle.index.specs.Index.{index_of, index_agrees}
 use Rattle.condition.specs.declared.Condition.{Condition}
@@ -18,8 +21,9 @@ use Rattle.condition.proofs.Rows.{formed-by-list}
 use Rattle.layout.specs.Layout.{packed_of, condition_in, unpacked_of}
 use Rattle.layout.proofs.PackedBack.{enough, length-packed, packed-back}
 use Rattle.inplace.specs.declared.Spent.{Spent}
+use Rattle.inplace.specs.declared.After.{After as Accepted}
 use Rattle.inplace.specs.InPlace.{LentIndex, Carried}
-use Rattle.inplace.specs.Carry.{After, carry_refusal, untouched_of, carried_of, after_of}
+use Rattle.inplace.specs.Carry.{After, carry_refusal, untouched_of, after, carried_of, after_of}
 
 -- a run on the condition c, packed as p, with entries x that are built from p
 module _ (c : Condition) (p x : List ℕ) (s : Sized c) (e : p ≡ packed_of c) (n : length x ≡ 256)
@@ -87,3 +91,10 @@ accepts c bs e =
     let long = ltb 32768 (length bs) in
     let p = passed (not (well_formed c)) 2 (cond long 4 0) e in
     (not-false (well_formed c) p.0, omega (arith, ltb-false 32768 (length bs) (passed long 3 0 p.1).0))
+
+-- any two answers of the code that are the same in the paper's words are the same
+abbrev of-after : After → Accepted
+of-after a = record { condition = a.condition; spent = a.spent }
+
+pub one-after : (c : Condition) (r s : Result Accepted Refusal) → after c r ≡ after c s → r ≡ s
+one-after c = one-answer (after c) (λ a. a.refusal) of-after (λ _. refl) (λ _. refl) (λ _. refl)

@@ -9,9 +9,9 @@ use lib.ListN.{length, get_or, length-append}
 use native.Mathlib.Nat.{add_assoc, add-zero}
 use borrow.Author.Tests.{eq-eqb, ne_eqb, leb-true, eqb-true, eqb-false, not-false}
 use Rattle.laws.proofs.Tests.{both, by-test, passed, number_by}
+use Rattle.std.specs.Prelude.{Result}
 use Rattle.refusals.specs.declared.Refusal.{Refusal}
-use Rattle.refusals.specs.Refusals.{number_of}
-use Rattle.refusals.proofs.Laws.{numbered}
+use Rattle.refusals.proofs.Laws.{one-answer}
 use Rattle.condition.specs.declared.Condition.{Condition}
 use Rattle.condition.specs.Condition.{well_formed}
 use Rattle.condition.specs.Bytes.{run_of}
@@ -21,13 +21,14 @@ use Rattle.condition.proofs.Aside.{run-indexed}
 use Rattle.condition.proofs.Kept.{run-kept}
 use Rattle.condition.proofs.Pieces.{run-append, total-append, worst-law}
 use Rattle.interpreter.specs.declared.Tally.{Tally}
+use Rattle.interpreter.specs.declared.Ran.{Ran as Accepted}
 use Rattle.inplace.specs.declared.Spent.{Spent}
 use Rattle.inplace.specs.InPlace.{Carried}
 use Rattle.inplace.specs.Carry.{carry_refusal}
 use Rattle.inplace.proofs.Running.{Small, small}
 use Rattle.inplace.proofs.Carrying.{accepts}
 use Rattle.interpreter.specs.Run.{Ran, limit, within_limit, zero_tally, tallied, run_refusal, refused_of, accepted_of, run_answer}
-use Rattle.interpreter.specs.Run.{in_turn, RunPromise, LentPromise}
+use Rattle.interpreter.specs.Run.{ran, in_turn, RunPromise, LentPromise}
 
 -- each number of a tally within its limit
 pub record Within (t : Tally) : Type 0 where
@@ -165,6 +166,23 @@ pub one-lent-run : (c : Condition) (t : Tally) (bs : List ℕ) (r s : Ran) (x y 
 one-lent-run c t bs r s x y p q =
     let e : r ≡ s = one-run c t bs r s p.ran q.ran in
     (e, p.stored ∙ ap (λ (k : Ran). k.tally) e ∙ sym q.stored)
+
+-- and so are any two answers of the code
+abbrev of-ran : Ran → Accepted
+of-ran r = record { condition = r.condition; tally = r.tally }
+
+pub one-ran : (c : Condition) (t : Tally) (r s : Result Accepted Refusal) → ran c t r ≡ ran c t s → r ≡ s
+one-ran c t = one-answer (ran c t) (λ a. a.refusal) of-ran (λ _. refl) (λ _. refl) (λ _. refl)
+
+pub same-run : (c : Condition) (t : Tally) (bs : List ℕ) (r s : Result Accepted Refusal)
+    → RunPromise c t bs (ran c t r) → RunPromise c t bs (ran c t s) → r ≡ s
+same-run c t bs r s p q = one-ran c t r s (one-run c t bs (ran c t r) (ran c t s) p q)
+
+pub same-lent-run : (c : Condition) (t : Tally) (bs : List ℕ) (r s : Result Accepted Refusal) (x y : Tally)
+    → LentPromise c t bs (ran c t r) x → LentPromise c t bs (ran c t s) y → (r ≡ s) × (x ≡ y)
+same-lent-run c t bs r s x y p q =
+    let e = one-lent-run c t bs (ran c t r) (ran c t s) x y p q in
+    (one-ran c t r s e.0, e.1)
 
 -- One run or several with the same bytes in turn end alike where no piece and no whole is refused ------------------------------
 

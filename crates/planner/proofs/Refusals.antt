@@ -281,6 +281,12 @@ module _ (number : ℕ) (bytes : List ℕ) (For : List ℕ → Type 0) (out : Li
 pub one-planned : (r s : Result ℕ Refusal) → planned r ≡ planned s → r ≡ s
 one-planned = one-answer planned (λ p. p.refusal) (λ p. p.length) (λ _. refl) (λ _. refl) (λ _. refl)
 
+pub same-plan : (number : ℕ) (bytes : List ℕ) (For : List ℕ → Type 0) (out a b : List ℕ) (r s : Result ℕ Refusal)
+    → Promise number bytes For out a (planned r) → Promise number bytes For out b (planned s) → (r ≡ s) × (a ≡ b)
+same-plan number bytes For out a b r s f g =
+    let e = one-plan number bytes For out a b (planned r) (planned s) f g in
+    (one-planned r s e.0, e.1)
+
 -- what is counted of a plan that is not refused is its length
 pub counted : (c : Condition) (wanted : List ℕ) (asked : ℕ) (r : Planned) → Counts c wanted asked r
     → plan_refusal c wanted asked 44 ≡ 0 → r.length ≡ length (either_plan c wanted asked)

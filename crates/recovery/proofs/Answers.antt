@@ -8,7 +8,7 @@ use native.Mathlib.Omega.{arith}
 use lib.Dec.{ltb}
 use lib.ListN.{length, take}
 use lib.Seq.{take_all, take-append_seam}
-use Rattle.std.specs.Prelude.{Ok, Err}
+use Rattle.std.specs.Prelude.{Result, Ok, Err}
 use borrow.Author.Tests.{ltb-false, not-false}
 use Rattle.laws.proofs.Tests.{by_cases, passed}
 use Rattle.row.specs.Row.{laid}
@@ -20,7 +20,7 @@ use Rattle.refusals.specs.declared.Refusal.{Refusal}
 use Rattle.refusals.specs.Refusals.{number_of}
 use Rattle.planner.specs.Answer.{Planned, planned, Promise}
 use Rattle.planner.specs.Plan.{at_start}
-use Rattle.planner.proofs.Refusals.{refused, taken-on, told, one-plan}
+use Rattle.planner.proofs.Refusals.{refused, taken-on, told, one-plan, same-plan}
 use Rattle.recovery.specs.Recovery.{get_back, PowersUp, NoWayBack, lost, recover_refusal, Recovers}
 use Rattle.recovery.proofs.Lost.{no_way_back}
 use Rattle.recovery.proofs.Back.{back}
@@ -101,3 +101,7 @@ from-any c before after r p z d s w way =
 pub one-recovery : (c : Condition) (before a b : List ℕ) (r s : Planned) → Recovers c before a r → Recovers c before b s
     → (r ≡ s) × (a ≡ b)
 one-recovery c before a b r s f g = one-plan _ _ _ _ a b r s f.gives g.gives
+
+pub same-recovery : (c : Condition) (before a b : List ℕ) (r s : Result ℕ Refusal) → Recovers c before a (planned r)
+    → Recovers c before b (planned s) → (r ≡ s) × (a ≡ b)
+same-recovery c before a b r s f g = same-plan _ _ _ _ a b r s f.gives g.gives

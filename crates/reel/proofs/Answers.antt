@@ -83,3 +83,9 @@ one-reeled (Ok a) (Ok b) e = ap Ok (same-put a b e)
 one-reeled (Ok a) (Err b) e = absurd (numbered b.refusal (sym (ap (λ (r : Reeled). r.stop.refusal) e)))
 one-reeled (Err a) (Ok b) e = absurd (numbered a.refusal (ap (λ (r : Reeled). r.stop.refusal) e))
 one-reeled (Err a) (Err b) e = ap Err (same-stop a b (ap (λ (r : Reeled). r.stop) e))
+
+pub same-reel : (stop : Stop) (c : Condition) (ps : List Picture) (out x y : List ℕ) (r s : Result ReeledTold StopTold)
+    → Promise stop c ps out x (reeled r) → Promise stop c ps out y (reeled s) → (r ≡ s) × (x ≡ y)
+same-reel stop c ps out x y r s f g =
+    let e = one-reel stop c ps out x y (reeled r) (reeled s) f g in
+    (one-reeled r s e.0, e.1)
