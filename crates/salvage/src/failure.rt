@@ -1,5 +1,4 @@
-// Why there is no second file: what failed, and of which file. It is said once, on standard error, when all that was opened is closed.
-// (Started without standard error, a file that is open might have its number.)
+// Why there is no second file: what failed, and of which file. It is said once, on standard error.
 use lines::{fail, say};
 use std::io::Error;
 
@@ -17,11 +16,13 @@ impl From<Error> for Why {
     }
 }
 
+// Of which file; or that it was said already.
 #[derive(Drop)]
 pub(crate) enum Failure {
     In(Why),
     Out(Why),
     Part(Why),
+    Said,
 }
 
 // The first file, the second, and the temporary file that becomes the second.
@@ -39,6 +40,7 @@ impl Failure {
             Failure::In(why) => (names.from, why),
             Failure::Out(why) => (names.to, why),
             Failure::Part(why) => (names.part, why),
+            Failure::Said => return,
         };
         match why {
             Why::System(e) => fail(rt, name, e),

@@ -42,17 +42,21 @@ fn salvage(
     Ok(())
 }
 
-// The same, of the file of that name.
-fn salvage_named(rt: HostRuntime, names: Names<'_>, text: &mut Text<'_>) -> Result<(), Failure>
+// The same, of an open file.
+fn salvage_open(
+    rt: HostRuntime,
+    first: &mut File,
+    names: Names<'_>,
+    text: &mut Text<'_>,
+) -> Result<(), Failure>
     requires { (text.old.size ≡ 0) × (length text.old.out.now ≡ 262144) }
 {
-    let mut first = input::open(rt, names.from).map_err(Failure::In)?;
-    let size = input::length(&mut first).map_err(Failure::In)?;
-    salvage(rt, &mut first, size as usize, names, text)
+    let size = input::length(first).map_err(Failure::In)?;
+    salvage(rt, first, size as usize, names, text)
 }
 
 // The same, of the names; all is printed once the second file has its name.
-fn salvage_as(rt: HostRuntime, from: &[u8], to: &[u8]) {
+fn salvage_named(rt: HostRuntime, from: &[u8], to: &[u8]) {
     let mut room = [0u8; PART];
     let part = second::part_name(rt, &mut room, to);
     let names = Names {
@@ -60,9 +64,13 @@ fn salvage_as(rt: HostRuntime, from: &[u8], to: &[u8]) {
         to,
         part: part.written(),
     };
+    let mut first = match input::open(rt, from) {
+        Ok(first) => first,
+        Err(why) => return Failure::In(why).say(rt, names),
+    };
     let mut out = [0u8; TEXT];
     let mut text = Text::new(&mut out);
-    if let Err(failure) = salvage_named(rt, names, &mut text) {
+    if let Err(failure) = salvage_open(rt, &mut first, names, &mut text) {
         return failure.say(rt, names);
     }
     if let Err(e) = rt.write_all(text.written()) {
@@ -84,5 +92,5 @@ fn main(rt: HostRuntime) {
         Ok(to) => to,
         Err(e) => return lines::fail(rt, b"OUT", e),
     };
-    salvage_as(rt, from, to);
+    salvage_named(rt, from, to);
 }

@@ -17,7 +17,8 @@ fn is_link(rt: HostRuntime, name: &str) -> bool {
 }
 
 // The second file may take a name where nothing stands, or a file that may be written. A rename would put the file in the place of a
-// link, a device or a pipe too.
+// link, a device or a pipe too. (What was opened is closed before a word is said: started without standard error, what stands there
+// might have its number.)
 fn may_take(rt: HostRuntime, name: &[u8]) -> Result<(), Why> {
     let text = path(name)?;
     if is_link(rt, text) {
@@ -140,22 +141,28 @@ fn take_name(rt: HostRuntime, part: &[u8], to: &[u8]) -> Result<(), Why> {
     Ok(())
 }
 
+// What failed is said, and then the temporary file is removed: it is known what failed even if the removal never ends.
+fn give_up(rt: HostRuntime, failure: Failure, names: Names<'_>) -> Failure {
+    failure.say(rt, names);
+    let _ = unlink(rt, names.part);
+    Failure::Said
+}
+
 // The temporary file is made and filled. Where that fails nothing of it is left.
 fn write_part(
     rt: HostRuntime,
     input: &mut File,
     sources: &mut [u16],
-    part: &[u8],
+    names: Names<'_>,
 ) -> Result<(), Failure>
     requires { length sources.old ≤ 10000 }
     ensures { OnOk result (Sourced (length sources.new) sources.new) }
 {
-    let mut output = create(rt, part).map_err(Failure::Part)?;
-    let filled = fill(input, &mut output, sources);
-    if filled.is_err() {
-        let _ = unlink(rt, part);
+    let mut output = create(rt, names.part).map_err(Failure::Part)?;
+    if let Err(failure) = fill(input, &mut output, sources) {
+        return Err(give_up(rt, failure, names));
     }
-    filled
+    Ok(())
 }
 
 // The second file is made of the first blocks, as many as there are sources: written whole under the name `part`, it then takes the
@@ -170,10 +177,9 @@ pub(crate) fn make(
     ensures { OnOk result (Sourced (length sources.new) sources.new) }
 {
     may_take(rt, names.to).map_err(Failure::Out)?;
-    write_part(rt, input, sources, names.part)?;
+    write_part(rt, input, sources, names)?;
     if let Err(why) = take_name(rt, names.part, names.to) {
-        let _ = unlink(rt, names.part);
-        return Err(Failure::Out(why));
+        return Err(give_up(rt, Failure::Out(why), names));
     }
     settle(rt, names.to);
     Ok(())
