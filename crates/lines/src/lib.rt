@@ -10,7 +10,7 @@ ghost use Rattle.lines.specs.Lines.{separator_of, hex_line, cell_lines, refused_
 
 mod system;
 
-use interpreter::Ran;
+use interpreter::{Ran, Tally};
 use refusals::Refusal;
 use std::fmt;
 pub use system::{EIO, PATH, arg, fail, has_args, path, read_full, say};
@@ -122,18 +122,24 @@ impl<'a> Text<'a> {
         ensures { (c : Condition) (t : Tally) → Ends self.old (ran c t run) self.new }
     {
         match run {
-            Ok(ran) => {
-                self.number(b"bytes ", ran.tally.bytes as u64);
-                self.number(b" busy ", ran.tally.busy as u64);
-                self.number(b" flickerless ", ran.tally.flickerless as u64);
-                self.number(b" worst ", ran.tally.worst as u64);
-                self.word(b"\n");
-            }
-            Err(refusal) => {
-                self.size = 0;
-                self.refused(refusal.into());
-            }
+            Ok(ran) => self.end_by(0, ran.tally),
+            Err(refusal) => self.end_by(refusal.into(), Tally::zero()),
         }
+    }
+
+    // The same by a refusal's number, whatever it is, and a tally: the tally where the number is 0, or the refusal alone.
+    pub fn end_by(&mut self, refusal: u32, tally: Tally)
+        ensures { (c : Condition) → Ends self.old (record { refusal = refusal; condition = c; tally = tally }) self.new }
+    {
+        if refusal != 0 {
+            self.size = 0;
+            return self.refused(refusal);
+        }
+        self.number(b"bytes ", tally.bytes as u64);
+        self.number(b" busy ", tally.busy as u64);
+        self.number(b" flickerless ", tally.flickerless as u64);
+        self.number(b" worst ", tally.worst as u64);
+        self.word(b"\n");
     }
 }
 
