@@ -1,7 +1,7 @@
 // Lines of text in a lent buffer, added piece by piece as far as there is room.
 #![tactic(auto)]
 
-ghost use Rattle.std.specs.Prelude.{◌≡◌, ◌++◌, ◌<◌, length, take};
+ghost use Rattle.std.specs.Prelude.{◌≡◌, ◌++◌, ◌<◌, length, take, IsOk};
 ghost use Rattle.condition.specs.declared.Condition.{Condition};
 ghost use Rattle.interpreter.specs.declared.Tally.{Tally};
 ghost use Rattle.interpreter.specs.Run.{ran};
@@ -143,9 +143,14 @@ impl<'a> Text<'a> {
     }
 }
 
-// What is written to a text is a word of it.
+// What is written to a text is a word of it, and it is always taken.
 impl<'a> fmt::Write for Text<'a> {
-    fn write_str(&mut self, s: &str) -> fmt::Result {
+    ghost write_str_gives = { Adds };
+
+    fn write_str(&mut self, s: &str) -> fmt::Result
+        ensures taken { IsOk result }
+        ensures added { Adds self.old s.now self.new }
+    {
         self.word(s.as_bytes());
         Ok(())
     }
