@@ -84,6 +84,10 @@ none-adds a = record { same = refl; added = none-added a.out.now a.size }
 pub each-adds : {a b d : Text} (f : ℕ → List ℕ) (n : ℕ) → Adds a (each f n) b → Adds b (f n) d → Adds a (each f (n + 1)) d
 each-adds f n p q = record { same = q.same ∙ p.same; added = each-added f n p.added q.added }
 
+-- a text within its buffer stays within it
+pub adds-within : {a b : Text} {x : List ℕ} → Adds a x b → a.size ≤ length a.out.now → b.size ≤ length b.out.now
+adds-within p h = omega (arith, p.added.next, same-added p.added, h)
+
 pub each_below : (f : ℕ → List ℕ) (m n : ℕ) → ((i : ℕ) → i < n → length (f i) ≤ m) → length (each f n) ≤ n * m
 unfolding each
 each_below f m zero h = omega arith

@@ -1,5 +1,5 @@
 // The second file.
-ghost use Rattle.std.specs.Prelude.{◌≤◌, length, OnOk};
+ghost use Rattle.std.specs.Prelude.{◌≡◌, ◌≤◌, length, OnOk};
 ghost use Rattle.io.specs.Counts.{IsPrefixLen};
 ghost use Rattle.std.specs.Io.KnownBytes.{Appends};
 ghost use Rattle.salvage.specs.Steps.{Due, Sourced, Copied};
@@ -43,7 +43,10 @@ fn may_take(rt: HostRuntime, name: &[u8]) -> Result<(), Why> {
 }
 
 // The temporary file beside `to`: `to`.PID.part
-pub(crate) fn part_name<'a>(rt: HostRuntime, room: &'a mut [u8], to: &[u8]) -> Text<'a> {
+pub(crate) fn part_name<'a>(rt: HostRuntime, room: &'a mut [u8], to: &[u8]) -> Text<'a>
+    ensures same { result.out.ghost_name ≡ room.entry.ghost_name }
+    ensures within { result.size ≤ length result.out.now }
+{
     let mut part = Text::new(room);
     part.word(to);
     part.number(b".", id(rt.process()) as u64);
