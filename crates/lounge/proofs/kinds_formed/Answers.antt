@@ -1,24 +1,16 @@
-use mathlib.Core.Path.{sym, ◌∙◌}
+use mathlib.Core.Path.{sym, ap, ◌∙◌}
+use mathlib.Core.Bool.{Bool, ◌&&◌, and-true}
 use native.Mathlib.Omega.{arith}
-use borrow.Author.Tests.{le-leb, lt-leb}
-use Rattle.lounge.proofs.Turns.{kinds-pair, kinds-few}
+use lib.Dec.{leb}
+use Rattle.lounge.proofs.Turns.{kinds-turn, kinds-ended}
 use Rattle.lounge.proofs.kinds_formed.Goals as goal
 
-pub returns-then-pair-gt-COMMAND : goal.returns-then-pair-gt-COMMAND
-returns-then-pair-gt-COMMAND c =
-    let i = c.loop-pair.invariant in
-    let s = c.in-Some.ensures.steps in
-    sym (sym i.3 ∙ kinds-pair c.in-Some.pair.now _ _ s.1.0 (s.1.1 ∙ i.2) ∙ rw (lt-leb _ _ c.if-pair-gt-COMMAND.true))
-
-pub loop-pair-preserved : goal.loop-pair-preserved
-loop-pair-preserved c =
-    let i = c.loop-pair.invariant in
-    let s = c.in-Some.ensures.steps in
-    let e = kinds-pair c.in-Some.pair.now _ _ s.1.0 (s.1.1 ∙ i.2) ∙ rw (le-leb _ _ c.if-pair-gt-COMMAND.false) in
-    (rw s.0 i.0, tt, s.0 ∙ i.2, sym e ∙ i.3)
+pub loop-k-preserved : goal.loop-k-preserved
+loop-k-preserved c =
+    let l = c.loop-k in
+    rw c.max-most.ensures (kinds-turn c.args.pairs.now l.k l.most (omega arith) ∙ l.invariant)
 
 pub returns : goal.returns
 returns c =
-    let i = c.loop-pair.invariant in
-    let s = c.in-None.ensures.steps in
-    sym (sym i.3 ∙ kinds-few _ (omega (arith, s.1.0, i.2)))
+    let l = c.loop-k in
+    sym (sym l.invariant ∙ ap (λ (t : Bool). leb l.most 1 && t) (kinds-ended c.args.pairs.now l.k (omega arith)) ∙ and-true _)

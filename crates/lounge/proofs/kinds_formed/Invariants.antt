@@ -1,9 +1,10 @@
 use mathlib.Core.Path.{◌≡◌}
-use Rattle.std.specs.Slice.Iter.{chunks_exact_rest, chunks_exact_size}
+use mathlib.Core.Bool.{◌&&◌}
+use Prim.Native.Nat.{◌*◌}
+use lib.Dec.{leb}
+use lib.ListN.{drop}
 use Rattle.lounge.specs.Run.{kinds_formed}
 use Rattle.lounge.proofs.kinds_formed.Given as goal
 
-abbrev pub invariant-loop-pair : goal.invariant-loop-pair
-invariant-loop-pair l =
-    (goal.iterator-loop-pair).can_next l.pair-iterator × (goal.iterator-loop-pair).is_finite l.pair-iterator
-    × (chunks_exact_size l.pair-iterator ≡ 2) × (kinds_formed (chunks_exact_rest l.pair-iterator) ≡ kinds_formed l.pairs)
+abbrev pub invariant-loop-k : goal.invariant-loop-k
+invariant-loop-k l = (leb l.most 1 && kinds_formed (drop (2 * l.k) l.pairs)) ≡ kinds_formed l.pairs
