@@ -19,10 +19,12 @@ pub(crate) fn is_char(index: &[u8; index::ENTRIES], b: u8) -> bool
     0x20 <= b || index[b as usize] != 0
 }
 
+// (Not by `matches!`: that is compiled to a tree of tests ahead of the jump that `led` makes, and a string of moves takes a quarter
+// more.)
 fn is_move(b: u8) -> bool
     ensures { result ≡ any (eqb b) moves }
 {
-    matches!(b, 0x08 | 0x09 | 0x0a | 0x0c | 0x0d)
+    (b == 0x08) | ((b == 0x09) | ((b == 0x0a) | ((b == 0x0c) | (b == 0x0d))))
 }
 
 fn left(p: u8) -> u8
