@@ -38,14 +38,14 @@ pub struct After {
 
 // The bytes are carried out in turn. Refused as out of range for a condition that is not well formed, as too long for more than
 // 32,768 bytes. Well-formedness is tested in the packed bytes, and the condition's index against the one that is built for the
-// run: a test by value would copy the whole condition.
+// run. (By `row::same`: `==` is compiled to a call that takes the entries one by one.)
 pub fn carry(c: Condition, bytes: &[u8]) -> Result<After, Refusal>
     ensures { after c result ≡ after_of c bytes.now }
 {
     let mut s = layout::packed(c);
     let mut index = [0u8; index::ENTRIES];
     reindex(&s, &mut index);
-    if !layout::is_formed(&s) || c.index != index {
+    if !layout::is_formed(&s) || !row::same(&c.index, &index) {
         return Err(Refusal::OutOfRange);
     }
     if MOST_BYTES < bytes.len() {
