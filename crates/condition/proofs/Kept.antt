@@ -14,7 +14,7 @@ use Rattle.users.specs.Users.{room_of, is_user, absent, places_formed, held_form
 use Rattle.users.proofs.Places.{not-user, new-not-user, define-most}
 use Rattle.users.proofs.Formed.{define-formed, absent-at, at-absent, next-held}
 use Rattle.index.proofs.Entries.{none-agrees}
-use Rattle.std.specs.Prelude.{Result, Ok, Err}
+use Rattle.std.specs.Prelude.{Result}
 use Rattle.refusals.specs.declared.Refusal.{Refusal}
 use Rattle.refusals.proofs.Laws.{one-answer}
 use Rattle.condition.specs.declared.Condition.{Condition}

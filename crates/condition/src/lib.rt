@@ -97,8 +97,8 @@ pub fn rows_good(fonts: &[u8], users: &UserList, pending: Pending, held: &[u8]) 
         & (pending.is_idle() | !users.is_user(0x1b))
 }
 
-fn numbers_good(c: Condition) -> bool
-    ensures { result ≡ numbers_good c }
+fn numbers_good(c: &Condition) -> bool
+    ensures { result ≡ numbers_good c.now }
 {
     ((c.cursor as usize) < Condition::CELLS)
         & (1 <= c.mode)
@@ -109,8 +109,8 @@ fn numbers_good(c: Condition) -> bool
         & (c.users.count <= Condition::MOST_USERS)
 }
 
-fn scroll_good(c: Condition) -> bool
-    ensures { result ≡ scroll_good c }
+fn scroll_good(c: &Condition) -> bool
+    ensures { result ≡ scroll_good c.now }
 {
     !c.scrolling | ((c.mode == 3) & (c.cursor % Condition::COLUMNS == Condition::LAST_COLUMN))
 }
@@ -177,11 +177,23 @@ impl Condition {
         Ok(Condition::powered(font as u8))
     }
 
-    // Whether the condition is well formed.
+    // Whether the condition is well formed. (Written out where it is called, it would copy the condition onto that caller's stack.)
+    #[inline(never)]
     pub fn well_formed(self) -> bool
         ensures { result ≡ well_formed self }
     {
-        let users = self.users.list();
+        self.is_well_formed()
+    }
+
+    // The same of a condition where it stands: none is copied onto the stack of a caller that was lent one. (The list is made here, and
+    // not by `Users::list`, because it is then known how many bytes it has.)
+    pub fn is_well_formed(&self) -> bool
+        ensures { result ≡ well_formed self.now }
+    {
+        let users = UserList {
+            bytes: &self.users.bytes,
+            count: self.users.count,
+        };
         numbers_good(self)
             & scroll_good(self)
             & rows_good(&self.fonts, &users, self.pending, &self.held)

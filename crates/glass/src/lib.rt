@@ -38,7 +38,7 @@ pub fn view(c: Condition, position: u32) -> Result<Shows, Refusal>
     ensures { seen result ≡ view_answer c position }
 {
     let i = position as usize;
-    if !c.well_formed() || Condition::CELLS <= i {
+    if !c.is_well_formed() || Condition::CELLS <= i {
         return Err(Refusal::OutOfRange);
     }
     Ok(shows_code(&c, c.codes[i], c.fonts[i]))
@@ -49,13 +49,15 @@ pub fn view(c: Condition, position: u32) -> Result<Shows, Refusal>
 fn lookup(c: Condition, code: u32) -> Option<usize>
     ensures { result ≡ lookup_of c code }
 {
-    if !c.well_formed() {
+    if !c.is_well_formed() {
         return None;
     }
     c.users.list().find(u8::try_from(code).ok()?)
 }
 
-// Dot k of a user character, asked by its code: 1 where it is lit, else 0.
+// Dot k of a user character, asked by its code: 1 where it is lit, else 0. (This and the next two are not written out where they are
+// called: their copies of a condition would be on the stack of a call that opens a block, beside what opening it takes.)
+#[inline(never)]
 pub fn dot(c: Condition, code: u32, k: u32) -> Result<u32, Refusal>
     ensures { answer result ≡ dot_answer c code k }
 {
@@ -69,6 +71,7 @@ pub fn dot(c: Condition, code: u32, k: u32) -> Result<u32, Refusal>
 }
 
 // The underline of a user character, asked by its code.
+#[inline(never)]
 pub fn underline(c: Condition, code: u32) -> Result<u32, Refusal>
     ensures { answer result ≡ underline_answer c code }
 {
@@ -79,6 +82,7 @@ pub fn underline(c: Condition, code: u32) -> Result<u32, Refusal>
 }
 
 // How many of its 35 dots a user character lights, asked by its code.
+#[inline(never)]
 pub fn lit(c: Condition, code: u32) -> Result<u32, Refusal>
     ensures { answer result ≡ lit_answer c code }
 {

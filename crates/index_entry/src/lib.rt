@@ -39,7 +39,8 @@ fn number<T: Copy>(answer: Result<T, Refusal>) -> u32
     }
 }
 
-// A run of no byte.
+// A run of no byte. (None of these is written out in `of_call`: the condition of each would be set to 0 first, by a call of memset.)
+#[inline(never)]
 fn of_run(c: Condition) -> u32
     ensures { result ≡ run_number c }
 {
@@ -47,6 +48,7 @@ fn of_run(c: Condition) -> u32
 }
 
 // A plan of a blank picture.
+#[inline(never)]
 fn of_plan(c: Condition) -> u32
     ensures { result ≡ plan_number c }
 {
@@ -54,6 +56,7 @@ fn of_plan(c: Condition) -> u32
     number(planner::plan(c, &BLANK, 0, &mut out))
 }
 
+#[inline(never)]
 fn of_fonts(c: Condition) -> u32
     ensures { result ≡ fonts_number c }
 {
@@ -63,6 +66,7 @@ fn of_fonts(c: Condition) -> u32
 }
 
 // A reel of no picture.
+#[inline(never)]
 fn of_reel(c: Condition) -> u32
     ensures { result ≡ reel_number c }
 {
@@ -73,6 +77,7 @@ fn of_reel(c: Condition) -> u32
     }
 }
 
+#[inline(never)]
 fn of_recover(c: Condition) -> u32
     ensures { result ≡ recover_number c }
 {
@@ -80,6 +85,7 @@ fn of_recover(c: Condition) -> u32
     number(recovery::recover(c, &mut out))
 }
 
+#[inline(never)]
 fn of_write(c: Condition) -> u32
     ensures { result ≡ write_number c }
 {
@@ -87,6 +93,7 @@ fn of_write(c: Condition) -> u32
     number(block::write(c, &mut out))
 }
 
+#[inline(never)]
 fn of_view(c: Condition) -> u32
     ensures { result ≡ view_number c }
 {
@@ -94,18 +101,21 @@ fn of_view(c: Condition) -> u32
 }
 
 // The three questions about the oldest user character.
+#[inline(never)]
 fn of_dot(c: Condition, code: u32) -> u32
     ensures { result ≡ dot_number c code }
 {
     number(glass::dot(c, code, 1))
 }
 
+#[inline(never)]
 fn of_underline(c: Condition, code: u32) -> u32
     ensures { result ≡ underline_number c code }
 {
     number(glass::underline(c, code))
 }
 
+#[inline(never)]
 fn of_lit(c: Condition, code: u32) -> u32
     ensures { result ≡ lit_number c code }
 {

@@ -50,7 +50,7 @@ fn check(
     if !long {
         return Err(Refusal::WrongLength);
     }
-    if !c.well_formed() || !ranged {
+    if !c.is_well_formed() || !ranged {
         return Err(Refusal::OutOfRange);
     }
     if !c.pending.is_idle() {

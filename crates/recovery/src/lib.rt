@@ -33,7 +33,7 @@ fn is_lost(c: &Condition) -> bool
 fn check(c: &Condition, room: usize) -> Result<(), Refusal>
     ensures { refusal_in result ≡ recover_refusal c.now room }
 {
-    if !c.well_formed() {
+    if !c.is_well_formed() {
         return Err(Refusal::OutOfRange);
     }
     if is_lost(c) {

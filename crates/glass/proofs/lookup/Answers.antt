@@ -17,9 +17,9 @@ same : {E : Type 0} (r : Result ℕ E) (P : Type 0) (n k : ℕ) → OkIff r P n 
 same (Ok x) P n k e q = let f : x ≡ n = e.1 in cc
 same (Err e) P n k f q = cc
 
-pub returns-then-not-well_formed : goal.returns-then-not-well_formed
+pub returns-then-not-is_well_formed : goal.returns-then-not-is_well_formed
 unfolding lookup_of
-returns-then-not-well_formed c = rw (sym c.well_formed-2.ensures ∙ c.if-not-well_formed.true)
+returns-then-not-is_well_formed c = rw (sym c.is_well_formed.ensures ∙ c.if-not-is_well_formed.true)
 
 pub returns-in_err-ok : goal.returns-in_err-ok
 unfolding lookup_of
@@ -28,7 +28,7 @@ returns-in_err-ok c =
     let wide : 255 < c.args.code = omega (arith, no) in
     rw (
       c.from_residual.ensures,
-      sym c.well_formed-2.ensures ∙ c.if-not-well_formed.false,
+      sym c.is_well_formed.ensures ∙ c.if-not-is_well_formed.false,
       none_above c.args.c.users.bytes c.args.c.users.count c.args.code (search rules) wide,
     )
 
@@ -36,7 +36,7 @@ pub returns : goal.returns
 unfolding lookup_of
 returns c =
     rw (
-      sym c.well_formed-2.ensures ∙ c.if-not-well_formed.false,
+      sym c.is_well_formed.ensures ∙ c.if-not-is_well_formed.false,
       ← (same _ _ _ _ c.try_from.ensures c.in_ok-ok.ensures.value),
       ← c.list.ensures.0,
       ← c.list.ensures.1,

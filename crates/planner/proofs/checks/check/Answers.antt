@@ -10,19 +10,19 @@ pub returns-then-not-long : goal.returns-then-not-long
 unfolding refusal_by
 returns-then-not-long c = rw c.if-not-long.true
 
-pub returns-then-not-well_formed : goal.returns-then-not-well_formed
+pub returns-then-not-is_well_formed : goal.returns-then-not-is_well_formed
 unfolding refusal_by
-returns-then-not-well_formed c =
+returns-then-not-is_well_formed c =
     rw c.if-not-long.false
-    (⊎_elim (λ (e : c.well_formed-2.result ≡ false). rw (sym c.well_formed-2.ensures ∙ e))
-    (λ (h : (c.well_formed-2.result ≡ true) × (c.args.ranged ≡ false)). rw (sym c.well_formed-2.ensures ∙ h.0, h.1))
-    c.then-not-well_formed.either)
+    (⊎_elim (λ (e : c.is_well_formed.result ≡ false). rw (sym c.is_well_formed.ensures ∙ e))
+    (λ (h : (c.is_well_formed.result ≡ true) × (c.args.ranged ≡ false)). rw (sym c.is_well_formed.ensures ∙ h.0, h.1))
+    c.then-not-is_well_formed.either)
 
 pub returns-then-not-is_idle : goal.returns-then-not-is_idle
 unfolding refusal_by
 returns-then-not-is_idle c = rw (
   c.if-not-long.false,
-  sym c.well_formed-2.ensures ∙ c.if-not-well_formed.false,
+  sym c.is_well_formed.ensures ∙ c.if-not-is_well_formed.false,
   c.if-not-ranged.false,
   sym c.is_idle.ensures ∙ c.if-not-is_idle.true,
 )
@@ -31,7 +31,7 @@ pub returns-then-c-ne1 : goal.returns-then-c-ne1
 unfolding refusal_by
 returns-then-c-ne1 c = rw (
   c.if-not-long.false,
-  sym c.well_formed-2.ensures ∙ c.if-not-well_formed.false,
+  sym c.is_well_formed.ensures ∙ c.if-not-is_well_formed.false,
   c.if-not-ranged.false,
   sym c.is_idle.ensures ∙ c.if-not-is_idle.false,
   ne_eqb _ _ c.if-c-ne1.true,
@@ -41,7 +41,7 @@ pub returns-then-blocked : goal.returns-then-blocked
 unfolding refusal_by
 returns-then-blocked c = rw (
   c.if-not-long.false,
-  sym c.well_formed-2.ensures ∙ c.if-not-well_formed.false,
+  sym c.is_well_formed.ensures ∙ c.if-not-is_well_formed.false,
   c.if-not-ranged.false,
   sym c.is_idle.ensures ∙ c.if-not-is_idle.false,
   eq-eqb _ _ c.if-c-ne1.false,
@@ -52,7 +52,7 @@ pub returns-then-some_lacks : goal.returns-then-some_lacks
 unfolding refusal_by
 returns-then-some_lacks c = rw (
   c.if-not-long.false,
-  sym c.well_formed-2.ensures ∙ c.if-not-well_formed.false,
+  sym c.is_well_formed.ensures ∙ c.if-not-is_well_formed.false,
   c.if-not-ranged.false,
   sym c.is_idle.ensures ∙ c.if-not-is_idle.false,
   eq-eqb _ _ c.if-c-ne1.false,
@@ -65,7 +65,7 @@ pub returns-then-short : goal.returns-then-short
 unfolding refusal_by
 returns-then-short c = rw (
   c.if-not-long.false,
-  sym c.well_formed-2.ensures ∙ c.if-not-well_formed.false,
+  sym c.is_well_formed.ensures ∙ c.if-not-is_well_formed.false,
   c.if-not-ranged.false,
   sym c.is_idle.ensures ∙ c.if-not-is_idle.false,
   eq-eqb _ _ c.if-c-ne1.false,
@@ -79,7 +79,7 @@ pub returns : goal.returns
 unfolding refusal_by
 returns c = rw (
   c.if-not-long.false,
-  sym c.well_formed-2.ensures ∙ c.if-not-well_formed.false,
+  sym c.is_well_formed.ensures ∙ c.if-not-is_well_formed.false,
   c.if-not-ranged.false,
   sym c.is_idle.ensures ∙ c.if-not-is_idle.false,
   eq-eqb _ _ c.if-c-ne1.false,
