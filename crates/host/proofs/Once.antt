@@ -13,7 +13,7 @@ use Rattle.laws.proofs.Tests.{number_by}
 use Rattle.condition.specs.declared.Condition.{Condition}
 use Rattle.condition.specs.Condition.{Outcome, outcome, well_formed}
 use Rattle.layout.specs.Layout.{condition_in, unpacked_of}
-use Rattle.block.specs.Reading.{read_refusal, damage_of, refused_of}
+use Rattle.block.specs.Reading.{read_refusal, damage_of}
 use Rattle.block.proofs.Damaged.{read_by, whole-unpacked}
 use Rattle.host.specs.Host.{opened_of, host_refusal_by}
 

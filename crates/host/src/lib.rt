@@ -3,7 +3,7 @@
 
 ghost use Rattle.std.specs.Prelude.{◌≡◌, ◌≤◌};
 ghost use Rattle.condition.specs.Condition.{outcome};
-ghost use Rattle.host.specs.Host.{opened_of, base_of, answer_number};
+ghost use Rattle.host.specs.Host.{opened_of, base_of, host_answer, answer_number};
 
 use condition::Condition;
 use refusals::Refusal;
@@ -35,7 +35,17 @@ fn base_of(base: Base) -> u32
     }
 }
 
-// An answer as one number: the value, or a base plus the refusal.
+// An answer by its refusal number, any byte and 0 for none, as one number: the value, or a base plus the refusal.
+pub fn answer_by(base: Base, refusal: u8, value: u32) -> u32
+    ensures { result ≡ host_answer base refusal value }
+{
+    if refusal != 0 {
+        return base_of(base) + u32::from(refusal);
+    }
+    value
+}
+
+// The same of an answer of the library, which is refused by one of 1 to 11.
 pub fn answer(base: Base, answer: Result<u32, Refusal>) -> u32
     ensures { result ≡ answer_number base answer }
 {

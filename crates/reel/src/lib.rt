@@ -9,7 +9,10 @@ ghost use Rattle.reel.specs.Reel.{pictures_of, plans_of, naming64, first_refused
 ghost use Rattle.reel.specs.Reel.{matching, reeled_by, stopped, stop_in, reeled, Reels};
 
 use condition::Condition;
+pub use numbers::{naming_64, refused};
 use refusals::Refusal;
+
+pub mod numbers;
 
 // The most pictures of a reel. This number is named where the whole call is refused.
 pub const MOST: usize = 64;
@@ -59,7 +62,7 @@ fn check_whole(c: &Condition, codes: &[u8], cursors: &[u8], room: usize) -> Resu
     if MOST < n {
         return Err(Refusal::OutOfRange);
     }
-    if !c.well_formed() {
+    if !c.is_well_formed() {
         return Err(Refusal::OutOfRange);
     }
     if room / planner::ROOM < n {

@@ -1,4 +1,3 @@
-use mathlib.Core.Path.{sym, ◌∙◌}
 use Rattle.host.proofs.Once.{opened-damaged, opened-whole}
 use Rattle.host.proofs.opened.Goals as goal
 

@@ -1,0 +1,11 @@
+use Rattle.host.specs.Host.{host_answer}
+use borrow.Author.Tests.{eq-eqb, ne_eqb}
+use Rattle.host.proofs.answer_by.Goals as goal
+
+pub returns-then-refusal-ne0 : goal.returns-then-refusal-ne0
+unfolding host_answer
+returns-then-refusal-ne0 c = rw (c.base_of.ensures.0, c.from.ensures, ne_eqb _ _ c.if-refusal-ne0.true)
+
+pub returns : goal.returns
+unfolding host_answer
+returns c = rw (eq-eqb _ _ c.if-refusal-ne0.false)
