@@ -66,7 +66,8 @@ fn judge(block: &[u8], picture: &[u8], string: &[u8]) -> Result<Verdict, Refusal
     vetting::vet_block(block, &picture[..Condition::CELLS], asked as u32, string)
 }
 
-// What is printed for what was read of the three files.
+// What is printed for what was read of the three files. (Not written out in `main`: what it takes would lie beside the reading's.)
+#[inline(never)]
 fn vet<'a>(out: &'a mut [u8], block: &[u8], picture: &[u8], string: &[u8]) -> Text<'a>
     requires { 40 ≤ length out.old }
     ensures { (take result.size result.out.now ≡ vet_line block.now picture.now string.now)
