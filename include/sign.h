@@ -37,7 +37,7 @@ extern "C" {
 
 /* The version of the library that this header belongs to. */
 #define SIGN_VERSION_MAJOR 2
-#define SIGN_VERSION_MINOR 8
+#define SIGN_VERSION_MINOR 9
 
 #define SIGN_BLOCK      512   /* bytes of a block */
 #define SIGN_TALLY      16    /* bytes of a tally */
@@ -52,17 +52,17 @@ extern "C" {
 /* Stack that a call needs on x86-64, in bytes, from its return address down, with all that it calls
    (the C library's memcpy and memset by their return address alone). The test `stack` compares
    these lines with the compiled code.
-     sign_power_up   1,624
-     sign_run        5,512
-     sign_plan       3,016
-     sign_plan_fonts 2,984
-     sign_reel       4,024
-     sign_vet        3,224
+     sign_power_up   1,656
+     sign_run        5,304
+     sign_plan       2,568
+     sign_plan_fonts 2,536
+     sign_reel       3,848
+     sign_vet        2,680
      sign_recover    2,456
      sign_view       2,440
-     sign_dot        2,904
-     sign_underline  2,440
-     sign_lit        2,440
+     sign_dot        2,456
+     sign_underline  2,456
+     sign_lit        2,456
    A host that makes one call after the other needs the largest of those that it makes.
    The code also uses the red zone, the 128 bytes below the stack pointer that the x86-64 ABI leaves
    to a function. A signal handler on the same stack needs its own frame and those 128 bytes
