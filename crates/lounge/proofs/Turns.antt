@@ -14,15 +14,7 @@ use Rattle.lounge.specs.declared.Lounge.{Lounge}
 use Rattle.lounge.specs.Pairs.{step_of, run_of}
 use Rattle.lounge.specs.Run.{kinds_formed}
 
--- A pair p in front of the rest, and fewer bytes than a pair
-pub kinds-pair : (p rest s : List ℕ) → s ≡ p ++ rest → length p ≡ 2
-    → kinds_formed s ≡ (leb (get_or p 0 0) 1 && kinds_formed rest)
-unfolding kinds_formed
-kinds-pair [] rest s e l = absurd (omega arith)
-kinds-pair (kind ∷ []) rest s e l = absurd (omega arith)
-kinds-pair (kind ∷ b ∷ []) rest s e l = rw e
-kinds-pair (kind ∷ b ∷ x ∷ p) rest s e l = absurd (omega arith)
-
+-- Fewer bytes than a pair
 pub kinds-few : (s : List ℕ) → length s < 2 → kinds_formed s ≡ true
 unfolding kinds_formed
 kinds-few [] h = refl

@@ -184,7 +184,14 @@ impl Lounge {
     }
 
     // Whether the condition is well formed.
-    pub fn well_formed(&self) -> bool
+    pub fn well_formed(self) -> bool
+        ensures { result ≡ well_formed self }
+    {
+        self.is_well_formed()
+    }
+
+    // The same of a condition where it stands.
+    pub fn is_well_formed(&self) -> bool
         ensures { result ≡ well_formed self.now }
     {
         self.numbers_formed()
@@ -250,7 +257,7 @@ pub fn run(c: Lounge, pairs: &[u8]) -> Result<Lounge, Refusal>
     if pairs.len() % 2 == 1 {
         return Err(Refusal::WrongLength);
     }
-    if !c.well_formed() {
+    if !c.is_well_formed() {
         return Err(Refusal::OutOfRange);
     }
     if !kinds_formed(pairs) {
@@ -274,7 +281,7 @@ fn has_mark(k: u8, m: u8) -> bool
 pub fn view(c: Lounge, position: u32) -> Result<Seen, Refusal>
     ensures { seen result ≡ view_answer c position }
 {
-    if !c.well_formed() {
+    if !c.is_well_formed() {
         return Err(Refusal::OutOfRange);
     }
     let i = position as usize;

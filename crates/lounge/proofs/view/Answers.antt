@@ -7,10 +7,10 @@ use Rattle.lounge.specs.Condition.{well_formed}
 use Rattle.lounge.specs.Shows.{view_answer, seen_of}
 use Rattle.lounge.proofs.view.Goals as goal
 
-pub returns-then-not-well_formed : goal.returns-then-not-well_formed
+pub returns-then-not-is_well_formed : goal.returns-then-not-is_well_formed
 unfolding view_answer
-returns-then-not-well_formed c =
-    let no-formed : well_formed c.args.c ≡ false = sym c.well_formed-2.ensures ∙ c.if-not-well_formed.true in
+returns-then-not-is_well_formed c =
+    let no-formed : well_formed c.args.c ≡ false = sym c.is_well_formed.ensures ∙ c.if-not-is_well_formed.true in
     rw no-formed
 
 pub returns-then-i-ge-CELLS : goal.returns-then-i-ge-CELLS
@@ -20,6 +20,6 @@ returns-then-i-ge-CELLS c = rw (lt-leb _ 39 c.if-i-ge-CELLS.true) (sym (rw (and-
 pub returns : goal.returns
 unfolding view_answer seen_of
 returns c =
-    let is-formed : well_formed c.args.c ≡ true = sym c.well_formed-2.ensures ∙ c.if-not-well_formed.false in
+    let is-formed : well_formed c.args.c ≡ true = sym c.is_well_formed.ensures ∙ c.if-not-is_well_formed.false in
     let in-range : c.args.position ≤ 39 = omega (arith, c.if-i-ge-CELLS.false) in
     rw (c.has_mark-2.ensures, c.has_mark.ensures, c.level.ensures, c.shows.ensures) (rw (is-formed, le-leb _ _ in-range))

@@ -1,5 +1,5 @@
 use Rattle.lounge.specs.Condition.{well_formed}
-use Rattle.lounge.proofs.Lounge.well_formed.Goals as goal
+use Rattle.lounge.proofs.Lounge.is_well_formed.Goals as goal
 
 pub returns : goal.returns
 unfolding well_formed
