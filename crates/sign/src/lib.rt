@@ -167,7 +167,7 @@ pub extern "C" fn sign_reel(
     }
     match reel(block, codes, cursors, out) {
         Ok(reeled) => {
-            lengths.copy_from_slice(&reeled.lengths);
+            row::copy(lengths, &reeled.lengths);
             reeled.bytes
         }
         Err(stop) => {

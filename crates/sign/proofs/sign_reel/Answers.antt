@@ -5,6 +5,8 @@ use lib.ListN.{replicate}
 use Rattle.reel.specs.Reel.{Stop}
 use Rattle.sign.specs.Calls.{reel_number}
 use Rattle.sign.proofs.Reels.{reel-short, reel-done}
+use Rattle.row.proofs.Laws.{filled}
+use borrow.Author.Rules.{rules}
 use Rattle.sign.proofs.sign_reel.Goals as goal
 
 pub returns-then-lengths-ne-MOST : goal.returns-then-lengths-ne-MOST
@@ -15,7 +17,8 @@ returns-then-lengths-ne-MOST c =
 pub returns-in-Ok : goal.returns-in-Ok
 unfolding reel_number
 returns-in-Ok c =
-    reel-done _ _ _ _ _ c.if-lengths-ne-MOST.false _ _ _ _ c.in-Ok.ensures c.copy_from_slice.ensures.after refl
+    let room = c.if-lengths-ne-MOST.false in
+    reel-done _ _ _ _ _ room _ _ _ _ c.in-Ok.ensures (c.copy.ensures ∙ filled _ _ 64 (search rules) room) refl
 
 pub returns-in-Err : goal.returns-in-Err
 returns-in-Err c =
