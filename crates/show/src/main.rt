@@ -22,8 +22,7 @@ fn place(text: &mut Text<'_>, c: &Condition)
     text.word(b"\n");
 }
 
-// What is printed of a run: its four lines, or its refusal alone. (Not written out in `main`, whose stack has the input and the run.)
-#[inline(never)]
+// What is printed of a run: its four lines, or its refusal alone.
 fn shown(text: &mut Text<'_>, run: Result<Ran, Refusal>)
     requires { (text.old.size ≡ 0) × (313 ≤ length text.old.out.now) }
     ensures { (c : Condition) (t : Tally) → (take text.new.size text.new.out.now ≡ shown_of (ran c t run))
