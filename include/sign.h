@@ -37,7 +37,7 @@ extern "C" {
 
 /* The version of the library that this header belongs to. */
 #define SIGN_VERSION_MAJOR 2
-#define SIGN_VERSION_MINOR 9
+#define SIGN_VERSION_MINOR 10
 
 #define SIGN_BLOCK      512   /* bytes of a block */
 #define SIGN_TALLY      16    /* bytes of a tally */
@@ -52,8 +52,8 @@ extern "C" {
 /* Stack that a call needs on x86-64, in bytes, from its return address down, with all that it calls
    (the C library's memcpy and memset by their return address alone). The test `stack` compares
    these lines with the compiled code.
-     sign_power_up   1,656
-     sign_run        5,304
+     sign_power_up   1,464
+     sign_run        4,760
      sign_plan       2,568
      sign_plan_fonts 2,536
      sign_reel       3,848

@@ -1,13 +1,26 @@
 -- Parts of a row of bytes: laid one after the other, copied out again, and where the first 200 bytes are cut.
-use Prim.Native.Nat.{ℕ, ◌+◌, ◌-◌, ◌≤◌}
+use Prim.Native.Nat.{ℕ, suc, ◌+◌, ◌-◌, ◌≤◌, ◌<◌}
 use mathlib.Core.Path.{◌≡◌, refl, ap, sym, ◌∙◌}
 use mathlib.Core.List.{List, ◌++◌, append_assoc, append-nil}
 use native.Mathlib.Omega.{arith}
-use lib.ListN.{length, take, drop, length-append, length-drop, drop_of_length-le}
-use lib.Seq.{take_at, drop_at, drop-drop, take-add}
+use native.Mathlib.Numerals.{add-one}
+use lib.ListN.{length, get_or, take, drop, set, length-append, length-drop, drop_of_length-le}
+use lib.Seq.{take_at, drop_at, drop-drop, drop-cons, take-add, take_all, take-suc, set_at, append_snoc, length-take-le}
 use Rattle.laws.proofs.Lists.{cut}
 use Rattle.std.proofs.lemmas.List.{drop-take, take-take}
 use borrow.Rule.Slice.PartMut.{put_mid}
+
+-- One byte after the other ----------------------------------------------------------------------------------------------------
+
+pub copy-turn : (d s out : List ℕ) (i : ℕ) → out ≡ take i s ++ drop i d → i < length d → i < length s
+    → set out i (get_or s i 0) ≡ take (i + 1) s ++ drop (i + 1) d
+copy-turn d s out i e h k =
+    let l : length (take i s) ≡ i = length-take-le i s (omega arith) in
+    rw (e, drop-cons d i 0 h, set_at (take i s) (get_or d i 0) (drop (suc i) d) (get_or s i 0) i l, add-one, take-suc s i 0 k)
+    (sym (append_snoc (take i s) (get_or s i 0) (drop (suc i) d)))
+
+pub copied : (d s : List ℕ) (i : ℕ) → length s ≤ i → length d ≤ i → take i s ++ drop i d ≡ s
+copied d s i hs hd = rw (take_all i s hs, drop_of_length-le d hd) (append-nil s)
 
 -- a part of the first m bytes
 pub part-of-first : (m : ℕ) (s : List ℕ) (at n : ℕ) → at + n ≤ m → take n (drop at (take m s)) ≡ take n (drop at s)

@@ -130,14 +130,25 @@ fn head(c: Condition) -> [u8; CODES]
     ]
 }
 
+// The bytes of a part, one by one. (`copy_from_slice` is compiled to look at where both stand, as they might overlap; what is looked
+// at so the compiler keeps whole on the stack, each copy of a condition that is packed or unpacked.)
+fn copy(to: &mut [u8], from: &[u8])
+    requires { length to.old ≡ length from.now }
+    ensures { to.new ≡ from.now }
+{
+    for (i, byte) in from.iter().enumerate() {
+        to[i] = *byte;
+    }
+}
+
 // The four parts of the first 200 bytes, one after the other.
 fn lay(s: &mut [u8; PACKED], first: &[u8; CODES], c: &Condition)
     ensures { s.new ≡ first.now ++ (c.now.codes ++ (c.now.fonts ++ c.now.users.bytes)) }
 {
-    s[..CODES].copy_from_slice(first);
-    s[CODES..FONTS].copy_from_slice(&c.codes);
-    s[FONTS..USERS].copy_from_slice(&c.fonts);
-    s[USERS..].copy_from_slice(&c.users.bytes);
+    copy(&mut s[..CODES], first);
+    copy(&mut s[CODES..FONTS], &c.codes);
+    copy(&mut s[FONTS..USERS], &c.fonts);
+    copy(&mut s[USERS..], &c.users.bytes);
 }
 
 // A condition as the block's first 200 bytes.
@@ -154,13 +165,13 @@ fn unpack(s: &[u8; PACKED]) -> Condition
     ensures { result ≡ condition_in s.now }
 {
     let mut codes = [0; Condition::CELLS];
-    codes.copy_from_slice(&s[CODES..FONTS]);
+    copy(&mut codes, &s[CODES..FONTS]);
     let mut fonts = [0; Condition::CELLS];
-    fonts.copy_from_slice(&s[FONTS..USERS]);
+    copy(&mut fonts, &s[FONTS..USERS]);
     let mut bytes = [0; Users::BYTES];
-    bytes.copy_from_slice(&s[USERS..]);
+    copy(&mut bytes, &s[USERS..]);
     let mut held = [0; Condition::HELD];
-    held.copy_from_slice(&s[HELD..COUNT]);
+    copy(&mut held, &s[HELD..COUNT]);
     let users = Users {
         bytes,
         count: s[COUNT],

@@ -30,7 +30,9 @@ fn shown(text: &mut Text<'_>, run: Result<Ran, Refusal>)
 {
     match run {
         Ok(ran) => {
-            text.cells(&ran.condition.codes);
+            // (by value: what is lent to a call that is not written out the compiler keeps whole on the stack)
+            let codes = ran.condition.codes;
+            text.cells(&codes);
             place(text, &ran.condition);
             text.end(run);
         }

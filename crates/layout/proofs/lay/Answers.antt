@@ -6,10 +6,10 @@ pub returns : goal.returns
 returns c =
     let a = c.args in
     rw (
-      c.copy_from_slice.ensures.after,
-      c.copy_from_slice-2.ensures.after,
-      c.copy_from_slice-3.ensures.after,
-      c.copy_from_slice-4.ensures.after,
+      c.copy.ensures,
+      c.copy-2.ensures,
+      c.copy-3.ensures,
+      c.copy-4.ensures,
     )
     (four-parts a.s.now a.first.now a.c.now.codes a.c.now.fonts a.c.now.users.bytes c.told-s (search rules) (search rules)
     (search rules))

@@ -8,9 +8,9 @@ returns c =
       c.build.ensures,
       c.list.ensures.0,
       c.list.ensures.1,
-      c.copy_from_slice.ensures.after,
-      c.copy_from_slice-2.ensures.after,
-      c.copy_from_slice-3.ensures.after,
-      c.copy_from_slice-4.ensures.after,
+      c.copy.ensures,
+      c.copy-2.ensures,
+      c.copy-3.ensures,
+      c.copy-4.ensures,
       c.pending_in.ensures,
     )
