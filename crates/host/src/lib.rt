@@ -26,6 +26,16 @@ pub fn opened(block: &[u8]) -> Result<Condition, Refusal>
     Ok(layout::unpacked(block))
 }
 
+// The same by the refusal's number, 0 for none, with a condition also where the block is refused: power-up for font 0.
+pub fn opened_by_number(block: &[u8]) -> (u32, Condition)
+    ensures { record { refusal = result.0; condition = result.1 } ≡ opened_of block.now }
+{
+    match opened(block) {
+        Ok(c) => (0, c),
+        Err(damage) => (u32::from(damage), Condition::powered(0)),
+    }
+}
+
 fn base_of(base: Base) -> u32
     ensures { (result ≡ base_of base) × (result ≤ 65536) }
 {

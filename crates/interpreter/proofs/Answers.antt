@@ -11,6 +11,7 @@ use borrow.Author.Tests.{eq-eqb, ne_eqb, leb-true, eqb-true, eqb-false, not-fals
 use Rattle.laws.proofs.Tests.{both, by-test, passed, number_by}
 use Rattle.std.specs.Prelude.{Result}
 use Rattle.refusals.specs.declared.Refusal.{Refusal}
+use Rattle.refusals.specs.Refusals.{refusal_in}
 use Rattle.refusals.proofs.Laws.{one-answer}
 use Rattle.condition.specs.declared.Condition.{Condition}
 use Rattle.condition.specs.Condition.{well_formed}
@@ -26,9 +27,8 @@ use Rattle.inplace.specs.declared.Spent.{Spent}
 use Rattle.inplace.specs.InPlace.{Carried}
 use Rattle.inplace.specs.Carry.{carry_refusal}
 use Rattle.inplace.proofs.Running.{Small, small}
-use Rattle.inplace.proofs.Carrying.{accepts}
 use Rattle.interpreter.specs.Run.{Ran, limit, within_limit, zero_tally, tallied, run_refusal, refused_of, accepted_of, run_answer}
-use Rattle.interpreter.specs.Run.{ran, in_turn, RunPromise, LentPromise}
+use Rattle.interpreter.specs.Run.{ran, ran_on, in_turn, RunPromise, LentPromise}
 
 -- each number of a tally within its limit
 pub record Within (t : Tally) : Type 0 where
@@ -52,10 +52,9 @@ within t e =
 
 -- refused, by its number
 not-run : (c : Condition) (t : Tally) (bs : List ℕ) (r : Ran) (n : ℕ) → r ≡ refused_of n c t → run_refusal c t bs ≡ n → (n ≡ 0 → ⊥)
-    → RunPromise c t bs r
+    → r ≡ run_answer c t bs
 unfolding run_answer
-not-run c t bs r n e f h =
-    record { answer = e ∙ sym (rw (f, ne_eqb n 0 h)); kept = λ z. absurd (h (sym (ap (λ (r : Ran). r.refusal) e) ∙ z)) }
+not-run c t bs r n e f h = e ∙ sym (rw (f, ne_eqb n 0 h))
 
 -- within its limits, a run is refused as carrying its bytes out is, and then by 5
 run-or-carry : (c : Condition) (t : Tally) (bs : List ℕ) → within_limit t ≡ true
@@ -74,6 +73,47 @@ pub run-unformed : (c : Condition) (t : Tally) (bs : List ℕ) → well_formed c
 unfolding run_answer run_refusal
 run-unformed c t bs w = rw w
 
+refusal-of : (c : Condition) (t : Tally) (bs : List ℕ) → (run_answer c t bs).refusal ≡ run_refusal c t bs
+unfolding run_answer
+refusal-of c t bs = number_by (λ (r : Ran). r.refusal) (run_refusal c t bs) refl refl
+
+-- a refused answer is its number alone, for the condition and the tally that were lent
+pub by-number : (c : Condition) (t : Tally) (bs : List ℕ) (r : Ran) → r ≡ run_answer c t bs → (r.refusal ≡ 0 → ⊥)
+    → refused_of r.refusal c t ≡ run_answer c t bs
+by-number c t bs r e = not-run c t bs _ r.refusal refl (sym (refusal-of c t bs) ∙ sym (ap (λ (s : Ran). s.refusal) e))
+
+pub not-refused : (c : Condition) (t : Tally) (bs : List ℕ) → (run_answer c t bs).refusal ≡ 0
+    → run_answer c t bs ≡ accepted_of c t bs
+unfolding run_answer
+not-refused c t bs =
+    by-test (λ (r : Ran). r.refusal ≡ 0 → r ≡ accepted_of c t bs) (eqb (run_refusal c t bs) 0) (λ _ _. refl)
+    (λ e z. absurd (eqb-false (run_refusal c t bs) 0 e z))
+
+-- what an accepted run tells of the condition and the tally that it got
+module _ (c : Condition) (t : Tally) (bs : List ℕ) (z : (run_answer c t bs).refusal ≡ 0) where
+  tells : (well_formed c ≡ true) × (within_limit (tallied t c bs) ≡ true)
+  unfolding run_refusal
+  tells =
+      let p = passed (not (well_formed c && within_limit t)) 2 _ (sym (refusal-of c t bs) ∙ z) in
+      let q = passed (ltb 32768 (length bs)) 3 _ p.1 in
+      let l = passed (not (within_limit (tallied t c bs))) 4 0 q.1 in
+      ((both (well_formed c) (within_limit t) (not-false _ p.0)).0, not-false _ l.0)
+
+  -- its tally is within its limits
+  pub ran-within : Within (run_answer c t bs).tally
+  ran-within = rw (not-refused c t bs z) (within (tallied t c bs) tells.1)
+
+-- an accepted run leaves a well-formed condition
+pub promise : (c : Condition) (t : Tally) (bs : List ℕ) (r : Ran) → Sized c → ((i : ℕ) → get_or bs i 0 < 256)
+    → r ≡ run_answer c t bs → RunPromise c t bs r
+promise c t bs r s b e =
+    record {
+      answer = e;
+      kept = λ z.
+          let y : (run_answer c t bs).refusal ≡ 0 = sym (ap (λ (r : Ran). r.refusal) e) ∙ z in
+          ap (λ (r : Ran). well_formed r.condition) (e ∙ not-refused c t bs y) ∙ run-kept c bs s b (tells c t bs y).0;
+    }
+
 -- a run keeps what its bytes keep: the arrays' lengths, and an index that is the list's
 module _ (c : Condition) (t : Tally) (bs : List ℕ) where
   ran-kept : (P : Condition → Type 0) → P c → P (run_of c bs) → P (run_answer c t bs).condition
@@ -87,31 +127,44 @@ module _ (c : Condition) (t : Tally) (bs : List ℕ) where
   ran-indexed x = ran-kept Indexed x (run-indexed c bs x)
 
 module _ (c : Condition) (t : Tally) (bs : List ℕ) (r : Ran) where
-  pub above-limit : within_limit t ≡ false → r ≡ refused_of 3 c t → RunPromise c t bs r
+  -- a refused run leaves nothing that has to be well formed
+  pub refuses : (n : ℕ) → r ≡ refused_of n c t → (n ≡ 0 → ⊥) → r ≡ run_answer c t bs → RunPromise c t bs r
+  refuses n e h a = record { answer = a; kept = λ z. absurd (h (sym (ap (λ (r : Ran). r.refusal) e) ∙ z)) }
+
+  -- each way's answer, and with it what a run by value promises
+  pub above-limit-is : within_limit t ≡ false → r ≡ refused_of 3 c t → r ≡ run_answer c t bs
   unfolding run_refusal
-  above-limit l e = not-run c t bs r 3 e (rw (l, and-false)) (λ z. omega arith)
+  above-limit-is l e = not-run c t bs r 3 e (rw (l, and-false)) (λ z. omega arith)
+
+  pub above-limit : within_limit t ≡ false → r ≡ refused_of 3 c t → RunPromise c t bs r
+  above-limit l e = refuses 3 e (λ z. omega arith) (above-limit-is l e)
 
   module _ (l : within_limit t ≡ true) where
-    pub not_carried : (n : ℕ) → n ≡ carry_refusal c bs → (n ≡ 0 → ⊥) → r ≡ refused_of n c t → RunPromise c t bs r
-    not_carried n f h e =
+    pub not_carried-is : (n : ℕ) → n ≡ carry_refusal c bs → (n ≡ 0 → ⊥) → r ≡ refused_of n c t → r ≡ run_answer c t bs
+    not_carried-is n f h e =
         let k : eqb (carry_refusal c bs) 0 ≡ false = ne_eqb (carry_refusal c bs) 0 (λ z. h (f ∙ z)) in
         not-run c t bs r n e (run-or-carry c t bs l ∙ rw (k, f)) h
+
+    pub not_carried : (n : ℕ) → n ≡ carry_refusal c bs → (n ≡ 0 → ⊥) → r ≡ refused_of n c t → RunPromise c t bs r
+    not_carried n f h e = refuses n e h (not_carried-is n f h e)
 
     module _ (k : carry_refusal c bs ≡ 0) where
       left : run_refusal c t bs ≡ cond (not (within_limit (tallied t c bs))) 5 0
       left = run-or-carry c t bs l ∙ rw (eq-eqb (carry_refusal c bs) 0 k)
 
+      pub passes-limit-is : within_limit (tallied t c bs) ≡ false → r ≡ refused_of 5 c t → r ≡ run_answer c t bs
+      passes-limit-is m e = not-run c t bs r 5 e (left ∙ rw m) (λ z. omega arith)
+
       pub passes-limit : within_limit (tallied t c bs) ≡ false → r ≡ refused_of 5 c t → RunPromise c t bs r
-      passes-limit m e = not-run c t bs r 5 e (left ∙ rw m) (λ z. omega arith)
+      passes-limit m e = refuses 5 e (λ z. omega arith) (passes-limit-is m e)
+
+      pub accepted-is : within_limit (tallied t c bs) ≡ true → r ≡ accepted_of c t bs → r ≡ run_answer c t bs
+      unfolding run_answer
+      accepted-is m e = e ∙ sym (rw (left, m))
 
       pub accepted : within_limit (tallied t c bs) ≡ true → Sized c → ((i : ℕ) → get_or bs i 0 < 256)
           → r ≡ accepted_of c t bs → RunPromise c t bs r
-      unfolding run_answer
-      accepted m s b e =
-          record {
-            answer = e ∙ sym (rw (left, m));
-            kept = λ z. ap (λ (r : Ran). well_formed r.condition) e ∙ run-kept c bs s b (accepts c bs k).0;
-          }
+      accepted m s b e = promise c t bs r s b (accepted-is m e)
 
 module _ (c k : Condition) (bs : List ℕ) (spent : Spent) (g : Carried c bs k spent) where
   -- what a run adds is small
@@ -184,6 +237,16 @@ same-lent-run c t bs r s x y p q =
     let e = one-lent-run c t bs (ran c t r) (ran c t s) x y p q in
     (one-ran c t r s e.0, e.1)
 
+-- of a run on what is lent, what it leaves there too
+pub same-run_on : (c : Condition) (t : Tally) (bs : List ℕ) (r s : Result (Unit {0}) Refusal) (k j : Condition) (x y : Tally)
+    → ran_on r k x ≡ run_answer c t bs → ran_on s j y ≡ run_answer c t bs → (r ≡ s) × (k ≡ j) × (x ≡ y)
+same-run_on c t bs r s k j x y p q =
+    let e : ran_on r k x ≡ ran_on s j y = p ∙ sym q in (
+      one-answer refusal_in (λ n. n) (λ _. tt) (λ _. refl) (λ _. refl) (λ _. refl) r s (ap (λ (a : Ran). a.refusal) e),
+      ap (λ (a : Ran). a.condition) e,
+      ap (λ (a : Ran). a.tally) e,
+    )
+
 -- One run or several with the same bytes in turn end alike where no piece and no whole is refused ------------------------------
 
 accepted-append : (c : Condition) (t : Tally) (xs ys : List ℕ)
@@ -201,17 +264,6 @@ accepted-append c t xs ys =
       ← add_assoc t.flickerless (flickerless_of c xs) (flickerless_of (run_of c xs) ys),
       ← add_assoc t.worst (worst_of c xs) (worst_of (run_of c xs) ys),
     )
-
-refusal-of : (c : Condition) (t : Tally) (bs : List ℕ) → (run_answer c t bs).refusal ≡ run_refusal c t bs
-unfolding run_answer
-refusal-of c t bs = number_by (λ (r : Ran). r.refusal) (run_refusal c t bs) refl refl
-
-pub not-refused : (c : Condition) (t : Tally) (bs : List ℕ) → (run_answer c t bs).refusal ≡ 0
-    → run_answer c t bs ≡ accepted_of c t bs
-unfolding run_answer
-not-refused c t bs =
-    by-test (λ (r : Ran). r.refusal ≡ 0 → r ≡ accepted_of c t bs) (eqb (run_refusal c t bs) 0) (λ _ _. refl)
-    (λ e z. absurd (eqb-false (run_refusal c t bs) 0 e z))
 
 turns : (c : Condition) (t : Tally) (pieces : List (List ℕ))
     → (in_turn c t pieces).refusal ≡ 0 → in_turn c t pieces ≡ accepted_of c t (flatten pieces)
@@ -237,13 +289,3 @@ two_runs c t xs ys p q w =
     let e : r ≡ accepted_of c t xs = not-refused c t xs p in
     not-refused r.condition r.tally ys q ∙ ap (λ (k : Ran). accepted_of k.condition k.tally ys) e
     ∙ accepted-append c t xs ys ∙ sym (not-refused c t (xs ++ ys) w)
-
--- the tally of an accepted run is within its limits
-pub ran-within : (c : Condition) (t : Tally) (bs : List ℕ) → (run_answer c t bs).refusal ≡ 0 → Within (run_answer c t bs).tally
-unfolding run_refusal
-ran-within c t bs z =
-    let e : run_refusal c t bs ≡ 0 = sym (refusal-of c t bs) ∙ z in
-    let p = passed (not (well_formed c && within_limit t)) 2 _ e in
-    let q = passed (ltb 32768 (length bs)) 3 _ p.1 in
-    let l = passed (not (within_limit (tallied t c bs))) 4 0 q.1 in
-    rw (not-refused c t bs z) (within (tallied t c bs) (not-false _ l.0))

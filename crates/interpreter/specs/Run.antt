@@ -1,7 +1,7 @@
 -- A run and the tally (document 01, Busy time and the tally; Refusal numbers and their order; document 02, W2).
 use Rattle.std.specs.Prelude.{ℕ, ◌+◌, ◌≡◌, List, [], ◌∷◌, Bool, true, cond, not, ◌&&◌, length, eqb, ltb, leb, Result, Ok, Err}
 use Rattle.refusals.specs.declared.Refusal.{Refusal}
-use Rattle.refusals.specs.Refusals.{number_of}
+use Rattle.refusals.specs.Refusals.{number_of, refusal_in}
 use Rattle.condition.specs.declared.Condition.{Condition}
 use Rattle.condition.specs.Condition.{well_formed}
 use Rattle.condition.specs.Bytes.{run_of}
@@ -51,6 +51,10 @@ refused_of n c t = record { refusal = n; condition = c; tally = t }
 abbrev pub ran : Condition → Tally → Result Accepted Refusal → Ran
 ran c t (Ok left) = record { refusal = 0; condition = left.condition; tally = left.tally }
 ran c t (Err e) = refused_of (number_of e) c t
+
+-- the same of a run on a condition and a tally that are lent, of what it leaves there, refused or not
+abbrev pub ran_on : {A : Type 0} → Result A Refusal → Condition → Tally → Ran
+ran_on r c t = record { refusal = refusal_in r; condition = c; tally = t }
 
 abbrev pub accepted_of : Condition → Tally → List ℕ → Ran
 accepted_of c t bs = record { refusal = 0; condition = run_of c bs; tally = tallied t c bs }

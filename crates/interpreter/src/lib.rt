@@ -2,7 +2,7 @@
 #![tactic(auto)]
 
 ghost use Rattle.std.specs.Prelude.{◌≡◌};
-ghost use Rattle.interpreter.specs.Run.{within_limit, zero_tally, ran, RunPromise, LentPromise};
+ghost use Rattle.interpreter.specs.Run.{within_limit, zero_tally, run_answer, ran, ran_on, RunPromise, LentPromise};
 
 use condition::Condition;
 use inplace::After;
@@ -51,16 +51,16 @@ pub struct Ran {
     pub tally: Tally,
 }
 
-// The bytes are carried out in turn, and the tally is brought up to date. Refused as out of range for a condition that is not well
-// formed or a tally above its limit, as too long for more than 32,768 bytes, as a full tally where a number of it would pass its
-// limit.
-pub fn run(c: Condition, t: Tally, bytes: &[u8]) -> Result<Ran, Refusal>
-    ensures { RunPromise c t bytes.now (ran c t result) }
+// The bytes are carried out in turn on the condition that is lent, and the tally that is lent is brought up to date. Refused as out
+// of range for a condition that is not well formed or a tally above its limit, as too long for more than 32,768 bytes, as a full
+// tally where a number of it would pass its limit; what is lent stays as it is then.
+pub fn run_on(c: &mut Condition, t: &mut Tally, bytes: &[u8]) -> Result<(), Refusal>
+    ensures { ran_on result c.new t.new ≡ run_answer c.old t.old bytes.now }
 {
     if !t.is_within_limit() {
         return Err(Refusal::OutOfRange);
     }
-    let After { condition, spent } = inplace::carry(c, bytes)?;
+    let After { condition, spent } = inplace::carry(*c, bytes)?;
     let tally = Tally {
         bytes: t.bytes + bytes.len() as u32,
         busy: t.busy + spent.busy,
@@ -70,14 +70,29 @@ pub fn run(c: Condition, t: Tally, bytes: &[u8]) -> Result<Ran, Refusal>
     if !tally.is_within_limit() {
         return Err(Refusal::TallyFull);
     }
-    Ok(Ran { condition, tally })
+    *c = condition;
+    *t = tally;
+    Ok(())
+}
+
+// The same of a condition and a tally by value.
+pub fn run(mut c: Condition, mut t: Tally, bytes: &[u8]) -> Result<Ran, Refusal>
+    ensures { RunPromise c t bytes.now (ran c t result) }
+{
+    run_on(&mut c, &mut t, bytes)?;
+    Ok(Ran {
+        condition: c,
+        tally: t,
+    })
 }
 
 // The same with the tally lent: its numbers are brought up to date there.
-pub fn run_lent(t: &mut Tally, c: Condition, bytes: &[u8]) -> Result<Ran, Refusal>
+pub fn run_lent(t: &mut Tally, mut c: Condition, bytes: &[u8]) -> Result<Ran, Refusal>
     ensures { LentPromise c t.old bytes.now (ran c t.old result) t.new }
 {
-    let ran = run(c, *t, bytes)?;
-    *t = ran.tally;
-    Ok(ran)
+    run_on(&mut c, t, bytes)?;
+    Ok(Ran {
+        condition: c,
+        tally: *t,
+    })
 }

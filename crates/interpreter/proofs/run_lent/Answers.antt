@@ -1,0 +1,27 @@
+use mathlib.Core.Path.{refl, sym, ap, ◌∙◌}
+use Rattle.std.proofs.lemmas.Result.{err_from_is_err_and}
+use Rattle.refusals.proofs.Laws.{numbered}
+use Rattle.condition.proofs.Good.{Sized}
+use Rattle.interpreter.specs.Run.{Ran}
+use Rattle.interpreter.proofs.Answers.{by-number, refuses, promise}
+use borrow.Author.Rules.{rules}
+use Rattle.interpreter.proofs.run_lent.Goals as goal
+use Rattle.interpreter.proofs.run_lent.Goals.{After-run_on}
+
+sized : (c : After-run_on) → Sized c.args.c
+sized c = record { codes-40 = search rules; fonts-40 = search rules; users-96 = search rules; held-4 = search rules }
+
+pub returns-in_err-run_on : goal.returns-in_err-run_on
+returns-in_err-run_on c =
+    let p = err_from_is_err_and c.from_residual.result c.from_residual.ensures.1 in
+    let e = c.in_err-run_on.ensures in
+    let n = by-number _ _ _ _ e (numbered _) in
+    rw (p.1, p.2)
+    (record { ran = refuses _ _ _ _ _ refl (numbered _) n; stored = ap (λ (r : Ran). r.tally) (e ∙ sym n) })
+
+pub returns : goal.returns
+returns c =
+    record {
+      ran = promise _ _ _ _ (sized (goal.at.returns c).After-run_on) (search rules) c.in_ok-run_on.ensures;
+      stored = refl;
+    }
